@@ -4,53 +4,23 @@ use Rattle.std.proofs.Common.{◌∙◌, arith, append_assoc, length-append, len
 use Rattle.std.specs.Prelude.{slice_set, slice_index_or, unwrap_or, All, if◌then◌else◌}
 use Rattle.std.proofs.Math.Nat.{zero-mul, suc-mul, add-mul, mul-le-mul_right}
 use Rattle.std.proofs.lemmas.Nat.{row_fits}
-use Rattle.std.proofs.lemmas.List.{take_at, drop_at, take-take, take-append-le, drop-append-le, drop-drop, drop-take, length-take-le}
-use Rattle.std.proofs.lemmas.List.{take-append-drop, take-replicate, drop-replicate, length-replicate, replicate-append-replicate}
+use Rattle.std.proofs.lemmas.List.{take-take, take-append-le, drop-append-le, drop-drop, drop-take, length-take-le}
+use Rattle.std.proofs.lemmas.List.{set_at, take_all, take-append-drop, take-replicate, drop-replicate, length-replicate, replicate-append-replicate}
 use Rattle.std.proofs.lemmas.List.{with_items_is}
 use Rattle.std.proofs.lemmas.List.Elements.{All-nil, All-cons, All-replicate}
 use Rattle.std.specs.List.{refill, length_refill}
 use Rattle.std.specs.Global.{Vec}
 use Rattle.std.specs.Vec.{with_items}
 use Rattle.fd_tile.specs.declared.place.Place.{Place}
-use Rattle.fd_tile.specs.Place.{Holds, HasRow, IsTilePlace}
-use Rattle.fd_tile.specs.Part.{part_left}
+use Rattle.fd_tile.specs.Place.{HasRow, IsTilePlace}
+use Rattle.fd_tile.specs.Part.{part_left, pasted_at}
 use Rattle.fd_blend.specs.declared.channel.Colour.{Colour}
-use Rattle.fd_tile.specs.Tile.{TileImage, FillsPlace, IsTileImage, IsTile, cut_rows, row_cut, rows_over, row_in, with_row_in, with_row, with_rows_from, row_of}
-use Rattle.fd_tile.specs.Tile.{depth_row_of, flat_over, rows_shown, depths_shown}
+use Rattle.fd_tile.specs.Tile.{FillsPlace, IsTileImage, IsTile, cut_rows, row_cut, rows_over, row_in, of_rows, with_row_in, with_row, with_rows_from}
+use Rattle.fd_tile.specs.Tile.{flat_over, rows_shown, depths_shown}
 use Rattle.fd_blend.specs.Channel.{fresh}
-use Rattle.fd_tile.proofs.Pixels.{HasRow-from_Holds, length-row_of, length-depth_row_of}
 
--- the list with these items from index i on
-abbrev pub pasted_at : {X : Type 0} → ℕ → List X → List X → List X
-pasted_at i new xs = take i xs ++ (new ++ drop (length new) (drop i xs))
-
-pub length-pasted_at : {X : Type 0} (i : ℕ) (new xs : List X) → i + length new ≤ length xs → length (pasted_at i new xs) ≡ length xs
-length-pasted_at i new xs fits =
-    omega (
-      arith,
-      length-append (take i xs) (new ++ drop (length new) (drop i xs)),
-      length-append new (drop (length new) (drop i xs)),
-      length-take-le i xs (omega arith),
-      length-drop (length new) (drop i xs),
-      length-drop i xs,
-    )
-
--- items in two parts are the second part, and then the first
-pub pasted_at-append : {X : Type 0} (i : ℕ) (new more xs : List X) → i + (length new + length more) ≤ length xs
-    → pasted_at i (new ++ more) xs ≡ pasted_at i new (pasted_at (i + length new) more xs)
-pasted_at-append {X = X} i new more xs fits =
-    let j : ℕ = i + length new in
-    let end : List X = drop (length more) (drop (i + length new) xs) in
-    let first : length (take (i + length new) xs) ≡ i + length new = length-take-le (i + length new) xs (omega arith) in
-    let before : take i (pasted_at (i + length new) more xs) ≡ take i xs =
-    take-append-le i (take j xs) (more ++ end) (omega (arith, first)) ∙ take-take i j xs (omega arith) in
-    let after : drop (length new) (drop i (pasted_at (i + length new) more xs)) ≡ more ++ end =
-    drop-drop (length new) i (pasted_at j more xs) ∙ drop_at (take j xs) (more ++ end) j first in
-    let rest : drop (length (new ++ more)) (drop i xs) ≡ end =
-    ap (λ k. drop k (drop i xs)) (length-append new more) ∙ sym (drop-drop (length more) (length new) (drop i xs))
-    ∙ ap (λ l. drop (length more) l) (drop-drop (length new) i xs) in
-    ap (λ l. take i xs ++ l) (ap (λ l. (new ++ more) ++ l) rest ∙ append_assoc new more end)
-    ∙ sym (ap (λ l. l ++ (new ++ drop (length new) (drop i (pasted_at j more xs)))) before ∙ ap (λ l. take i xs ++ (new ++ l)) after)
+length-pasted_at : {X : Type 0} (i : ℕ) (new xs : List X) → i + length new ≤ length xs → length (pasted_at i new xs) ≡ length xs
+length-pasted_at i new xs fits = simp (length-append, length-drop) (omega (arith, length-take-le i xs (omega arith)))
 
 pub length-cut_rows : {X : Type 0} (w n : ℕ) (xs : List X) → length (cut_rows w n xs) ≡ n
 length-cut_rows w zero xs = refl
@@ -72,44 +42,64 @@ cut_rows-at w (suc n) (suc i) xs within =
     cut_rows-at w n i (drop w xs) (omega arith)
     ∙ ap (λ l. take w l) (drop-drop (i * w) w xs ∙ ap (λ k. drop k xs) {x = w + i * w} {y = suc i * w} (omega arith))
 
+-- those of two lists, one after the other
+cut_rows-append : {X : Type 0} (w m n : ℕ) (xs ys : List X) → length xs ≡ m * w → cut_rows w (m + n) (xs ++ ys) ≡ cut_rows w m xs ++ cut_rows w n ys
+cut_rows-append w zero n [] ys long = ap (λ k. cut_rows w k ys) {x = zero + n} {y = n} (omega arith)
+cut_rows-append w zero n (x ∷ xs) ys long = absurd (omega (arith, zero-mul w))
+cut_rows-append w (suc m) n xs ys long =
+    let more : suc m * w ≡ m * w + w = suc-mul m w in
+    let low : w ≤ length xs = omega arith in
+    let next : suc m + n ≡ suc (m + n) = omega arith in
+    rw (next, take-append-le w xs ys low, drop-append-le w xs ys low, cut_rows-append w m n (drop w xs) ys (omega (arith, length-drop w xs)))
+
+rows_fit : (d k h w : ℕ) → d + k ≤ h → d * w + k * w ≤ h * w
+rows_fit d k h w fits = omega (arith, add-mul d k w, mul-le-mul_right w fits)
+
+-- k rows from row i on, of h: those above them, those below, and their items
+module _ {X : Type 0} (w i k h : ℕ) (xs : List X) (fits : i + k ≤ h) (long : h * w ≤ length xs) where
+  abbrev pub above : List (List X)
+  above = cut_rows w i (take (i * w) xs)
+
+  abbrev pub below : List (List X)
+  below = cut_rows w (h - (i + k)) (drop (k * w) (drop (i * w) xs))
+
+  abbrev pub middle : List X
+  middle = take (k * w) (drop (i * w) xs)
+
+  rows_parted : (new : List X) → length new ≡ k * w → cut_rows w h (pasted_at (i * w) new xs) ≡ above ++ (cut_rows w k new ++ below)
+  rows_parted new wide =
+      let all : h ≡ i + (k + (h - (i + k))) = omega arith in
+      let front : length (take (i * w) xs) ≡ i * w = length-take-le (i * w) xs (omega (arith, rows_fit i k h w fits)) in
+      ap (λ n. cut_rows w n (pasted_at (i * w) new xs)) all ∙ cut_rows-append w i _ (take (i * w) xs) _ front
+      ∙ ap (λ l. above ++ l) (cut_rows-append w k _ new _ wide ∙ ap (λ n. cut_rows w k new ++ cut_rows w (h - (i + k)) (drop n (drop (i * w) xs))) wide)
+
+  rows_now : cut_rows w h xs ≡ above ++ (cut_rows w k middle ++ below)
+  rows_now =
+      let wide : length (take (k * w) (drop (i * w) xs)) ≡ k * w =
+      length-take-le (k * w) (drop (i * w) xs) (omega (arith, rows_fit i k h w fits, length-drop (i * w) xs)) in
+      ap (λ l. cut_rows w h l) (sym (rw (wide, take-append-drop (k * w) (drop (i * w) xs), take-append-drop (i * w) xs) refl)) ∙ rows_parted middle wide
+
 -- one row is written
-pub cut_rows-set : {X : Type 0} (w n i : ℕ) (row xs : List X) → i < n → length row ≡ w → n * w ≤ length xs → cut_rows w n (pasted_at (i * w) row xs)
+cut_rows-set : {X : Type 0} (w n i : ℕ) (row xs : List X) → i < n → length row ≡ w → n * w ≤ length xs → cut_rows w n (pasted_at (i * w) row xs)
     ≡ slice_set (cut_rows w n xs) i row
-cut_rows-set {X = X} w zero i row xs within wide fits = absurd (omega arith)
-cut_rows-set {X = X} w (suc n) zero row xs within wide fits =
-    let rest : List X = drop (length row) xs in
-    ap (λ k. cut_rows w (suc n) (pasted_at k row xs)) (zero-mul w)
-    ∙ ap (λ l. l ∷ cut_rows w n (drop w (row ++ rest))) (take_at row rest w wide)
-    ∙ ap (λ l. row ∷ cut_rows w n l) (drop_at row rest w wide ∙ ap (λ k. drop k xs) wide)
-cut_rows-set {X = X} w (suc n) (suc i) row xs within wide fits =
-    let more : suc i * w ≡ i * w + w = suc-mul i w in
-    let all : suc n * w ≡ n * w + w = suc-mul n w in
-    let at : ℕ = w + i * w in
-    let end : List X = drop (length row) (drop (w + i * w) xs) in
-    let below : i * w + w ≤ n * w = row_fits i w n w (omega arith) (omega arith) in
-    let low : w ≤ length (take (w + i * w) xs) = omega (arith, length-take-le (w + i * w) xs (omega arith)) in
-    ap (λ k. cut_rows w (suc n) (pasted_at k row xs)) {x = suc i * w} {y = w + i * w} (omega arith)
-    ∙ ap (λ l. l ∷ cut_rows w n (drop w (pasted_at at row xs))) (take-append-le w (take at xs) (row ++ end) low ∙ take-take w at xs (omega arith))
-    ∙ ap (λ l. take w xs ∷ cut_rows w n l)
-    (drop-append-le w (take at xs) (row ++ end) low ∙ ap (λ l. l ++ (row ++ end)) (drop-take w (i * w) xs)
-    ∙ ap (λ l. take (i * w) (drop w xs) ++ (row ++ drop (length row) l)) (sym (drop-drop (i * w) w xs)))
-    ∙ ap (λ l. take w xs ∷ l) (cut_rows-set w n i row (drop w xs) (omega arith) wide (omega (arith, length-drop w xs)))
+cut_rows-set w n i row xs within wide fits =
+    let more : i + 1 ≤ n = omega arith in
+    let one : length row ≡ 1 * w = omega arith in
+    rw (rows_parted w i 1 n xs more fits row one, rows_now w i 1 n xs more fits, take_all w row (omega arith))
+    (sym (set_at (above w i 1 n xs more fits) _ _ row i (length-cut_rows w i (take (i * w) xs))))
 
 -- one value everywhere
 pub cut_rows-replicate : {X : Type 0} (w n : ℕ) (x : X) → cut_rows w n (replicate (n * w) x) ≡ replicate n (replicate w x)
 cut_rows-replicate w zero x = refl
 cut_rows-replicate w (suc n) x =
-    let more : suc n * w ≡ n * w + w = suc-mul n w in
-    let rest : n * w + w - w ≡ n * w = omega arith in
-    ap (λ k. cut_rows w (suc n) (replicate k x)) more
-    ∙ ap (λ l. l ∷ cut_rows w n (drop w (replicate (n * w + w) x))) (take-replicate w (n * w + w) x (omega arith))
-    ∙ ap (λ l. replicate w x ∷ cut_rows w n l) (drop-replicate w (n * w + w) x ∙ ap (λ k. replicate k x) rest)
-    ∙ ap (λ l. replicate w x ∷ l) (cut_rows-replicate w n x)
+    let more : suc n * w ≡ w + n * w = omega (arith, suc-mul n w) in
+    let rest : w + n * w - w ≡ n * w = omega arith in
+    rw (more, take-replicate w (w + n * w) x (omega arith), drop-replicate w (w + n * w) x, rest, cut_rows-replicate w n x) refl
 
 -- ---- the rows of a place
-module _ {X : Type 0} (p : Place) (items : List X) (placed : IsTilePlace p) (counted : length items ≡ p.height * p.width) where
-  pub FillsPlace-rows_over : FillsPlace p (rows_over p items)
-  FillsPlace-rows_over = record {
+module _ {X : Type 0} (p : Place) (items : List X) (counted : length items ≡ p.height * p.width) where
+  pub FillsPlace-rows_over : IsTilePlace p → FillsPlace p (rows_over p items)
+  FillsPlace-rows_over placed = record {
     placed = placed;
     high = length-cut_rows p.width p.height items;
     wide = cut_rows-wide p.width p.height items (omega arith);
@@ -129,111 +119,61 @@ module _ {X : Type 0} (p : Place) (items : List X) (placed : IsTilePlace p) (cou
     pub row_read : take (start + p.width - start) (drop start items) ≡ row_in p (rows_over p items) y
     row_read = ap (λ n. take n (drop start items)) {x = start + p.width - start} {y = p.width} (omega arith) ∙ sym row_in-rows_over
 
-    module _ (left : List X) where
-      abbrev lent : List X
-      lent = take p.width (drop start items)
+-- the list of a Vec is as long as before, whatever was left of what it lent
+pub vec_counted : {X : Type 0} {n : ℕ} (v : Vec X) (left : List X) → length v.items ≡ n → length (with_items v left).items ≡ n
+vec_counted v left counted = sym (with_items v left).ok.0 ∙ v.ok.0 ∙ counted
 
-      lent_long : length lent ≡ p.width
-      lent_long = length-take-le p.width (drop start items) (omega (arith, row_fits_in, length-drop start items))
-
-      abbrev full : List X
-      full = refill p.width lent left
-
-      full_long : length full ≡ p.width
-      full_long = sym (length_refill p.width lent left (sym lent_long))
-
-      part_is : part_left items start (start + p.width) left ≡ pasted_at start full items
-      part_is =
-          ap (λ n. take start items ++ (refill n (take n (drop start items)) left ++ drop n (drop start items))) {x = start + p.width - start} {y = p.width}
-          (omega arith)
-          ∙ ap (λ n. take start items ++ (full ++ drop n (drop start items))) (sym full_long)
-
-      -- a row was lent and left
-      pub rows_left : rows_over p (part_left items start (start + p.width) left)
-          ≡ with_row_in p (rows_over p items) y (refill (length (row_in p (rows_over p items) y)) (row_in p (rows_over p items) y) left)
-      rows_left =
-          ap (λ l. rows_over p l) (part_is ∙ ap (λ i. pasted_at i full items) begins)
-          ∙ cut_rows-set p.width p.height (y - p.top) full items within full_long (omega arith)
-          ∙ ap (λ n. with_row_in p (rows_over p items) y (refill n lent left)) (sym lent_long)
-          ∙ ap (λ r. with_row_in p (rows_over p items) y (refill (length r) r left)) (sym row_in-rows_over)
-
-      pub length-part_left : length (part_left items start (start + p.width) left) ≡ length items
-      length-part_left = ap length part_is ∙ length-pasted_at start full items (omega (arith, full_long, row_fits_in))
-
--- the same of the list of a Vec
-module _ {X : Type 0} (p : Place) (v : Vec X) (placed : IsTilePlace p) (counted : length v.items ≡ p.height * p.width) (y start : ℕ) (crossed : HasRow p y)
+-- a row of the list of a Vec was lent and left
+module _ {X : Type 0} (p : Place) (v : Vec X) (counted : length v.items ≡ p.height * p.width) (y start : ℕ) (crossed : HasRow p y)
     (begins : start ≡ (y - p.top) * p.width) (left : List X) where
-  items_left : (with_items v (part_left v.items start (start + p.width) left)).items ≡ part_left v.items start (start + p.width) left
-  items_left = with_items_is v (part_left v.items start (start + p.width) left) (length-part_left p v.items placed counted y start crossed begins left
-      ∙ sym v.ok.0)
+  abbrev lent : List X
+  lent = take p.width (drop start v.items)
+
+  abbrev full : List X
+  full = refill p.width lent left
 
   pub vec_rows_left : rows_over p (with_items v (part_left v.items start (start + p.width) left)).items
       ≡ with_row_in p (rows_over p v.items) y (refill (length (row_in p (rows_over p v.items) y)) (row_in p (rows_over p v.items) y) left)
-  vec_rows_left = ap (λ l. rows_over p l) items_left ∙ rows_left p v.items placed counted y start crossed begins left
-
-  pub vec_counted_left : length (with_items v (part_left v.items start (start + p.width) left)).items ≡ p.height * p.width
-  vec_counted_left = ap length items_left ∙ length-part_left p v.items placed counted y start crossed begins left ∙ counted
+  vec_rows_left =
+      let within : start + p.width ≤ length v.items = row_fits_in p v.items counted y start crossed begins in
+      let lent_long : length lent ≡ p.width = length-take-le p.width (drop start v.items) (omega (arith, within, length-drop start v.items)) in
+      let full_long : length full ≡ p.width = sym (length_refill p.width lent left (sym lent_long)) in
+      let width : start + p.width - start ≡ p.width = omega arith in
+      let part_is : part_left v.items start (start + p.width) left ≡ pasted_at start full v.items = rw (width, full_long) refl in
+      let long : length (pasted_at start full v.items) ≡ v.len = length-pasted_at start full v.items (omega (arith, within)) ∙ sym v.ok.0 in
+      let row_is : row_in p (rows_over p v.items) y ≡ lent = row_in-rows_over p v.items counted y start crossed begins in
+      rw (row_is, lent_long) (ap (λ l. rows_over p (with_items v l).items) part_is
+      ∙ ap (λ l. rows_over p l) (with_items_is v (pasted_at start full v.items) long ∙ ap (λ i. pasted_at i full v.items) begins)
+      ∙ cut_rows-set p.width p.height (y - p.top) full v.items (omega arith) full_long (omega arith))
 
 -- ---- several rows are written
-rows_fit : (d k h w : ℕ) → d + k ≤ h → d * w + k * w ≤ h * w
-rows_fit d k h w fits = omega (arith, add-mul d k w, mul-le-mul_right w fits)
-
 pub rows_within : (p : Place) (size y start count n : ℕ) → size ≡ p.height * p.width → p.top ≤ y → y + count ≤ p.top + p.height
     → start ≡ (y - p.top) * p.width → n ≡ count * p.width → start + n ≤ size
 rows_within p size y start count n counted low high begins wide = omega (arith, rows_fit (y - p.top) count p.height p.width (omega arith))
 
-abbrev of_rows : Place → List (List Colour) → List (List ℕ) → TileImage
-of_rows p rows depths = record { place = p; rows = rows; depths = depths; made = true }
+-- rows in the place of as many others are those, set one after another
+rows_set : (p : Place) (depths : List (List ℕ)) (y : ℕ) (front old new back : List (List Colour)) → p.top ≤ y → length front ≡ y - p.top
+    → length old ≡ length new → of_rows p (front ++ (new ++ back)) depths ≡ with_rows_from (of_rows p (front ++ (old ++ back)) depths) y new
+rows_set p depths y front [] [] back low at same = refl
+rows_set p depths y front [] (n ∷ new) back low at same = absurd (omega arith)
+rows_set p depths y front (o ∷ old) [] back low at same = absurd (omega arith)
+rows_set p depths y front (o ∷ old) (n ∷ new) back low at same =
+    let next : length (front ++ o ∷ []) ≡ y + 1 - p.top = omega (arith, length-append front (o ∷ [])) in
+    ap (λ rows. of_rows p rows depths) (sym (set_at front o (new ++ back) n (y - p.top) at) ∙ ap (λ l. slice_set l (y - p.top) n)
+    (sym (append_assoc front (o ∷ []) (new ++ back))))
+    ∙ ap (λ t. with_row t y n) (rows_set p depths (y + 1) (front ++ o ∷ []) old new back (omega arith) next (omega arith)
+    ∙ ap (λ rows. with_rows_from (of_rows p rows depths) (y + 1) new) (append_assoc front (o ∷ []) (old ++ back)))
 
 pub put_rows_is : (p : Place) (items : List Colour) (depths : List (List ℕ)) (y start count : ℕ) (new : List Colour) → length items ≡ p.height * p.width
     → p.top ≤ y → y + count ≤ p.top + p.height
     → start ≡ (y - p.top) * p.width → length new ≡ count * p.width
     → of_rows p (rows_over p (pasted_at start new items)) depths ≡ with_rows_from (of_rows p (rows_over p items) depths) y (cut_rows p.width count new)
-put_rows_is p items depths y start zero [] counted low high begins wide = ap (λ l. of_rows p (rows_over p l) depths) (take-append-drop start items)
-put_rows_is p items depths y start zero (c ∷ new) counted low high begins wide = absurd (omega (arith, zero-mul p.width))
-put_rows_is p items depths y start (suc n) new counted low high begins wide =
-    let more : suc n * p.width ≡ n * p.width + p.width = suc-mul n p.width in
-    let row : List Colour = take p.width new in
-    let rest : List Colour = drop p.width new in
-    let row_long : length (take p.width new) ≡ p.width = length-take-le p.width new (omega arith) in
-    let rest_long : length (drop p.width new) ≡ n * p.width = omega (arith, length-drop p.width new) in
-    let down : (y + 1 - p.top) * p.width ≡ (y - p.top) * p.width + p.width =
-    ap (λ k. k * p.width) {x = y + 1 - p.top} {y = suc (y - p.top)} (omega arith) ∙ suc-mul (y - p.top) p.width in
-    let next : start + length (take p.width new) ≡ (y + 1 - p.top) * p.width = omega (arith, down, begins, row_long) in
-    let fits : start + (length (take p.width new) + length (drop p.width new)) ≤ length items =
-    omega (arith, rows_fit (y - p.top) (suc n) p.height p.width (omega arith), row_long, rest_long, begins, more) in
-    let after : List Colour = pasted_at (start + length row) rest items in
-    let after_counted : length after ≡ p.height * p.width = length-pasted_at (start + length row) rest items (omega (arith, fits)) ∙ counted in
-    ap (λ l. of_rows p (rows_over p (pasted_at start l items)) depths) (sym (take-append-drop p.width new))
-    ∙ ap (λ l. of_rows p (rows_over p l) depths) (pasted_at-append start row rest items fits ∙ ap (λ i. pasted_at i row after) begins)
-    ∙ ap (λ rows. of_rows p rows depths) (cut_rows-set p.width p.height (y - p.top) row after (omega arith) row_long (omega arith))
-    ∙ ap (λ t. with_row t y row) (put_rows_is p items depths (y + 1) (start + length row) n rest counted (omega arith) (omega arith) next rest_long)
-
-module _ (p : Place) (v : Vec Colour) (y start count : ℕ) (new lent left : List Colour) (counted : length v.items ≡ p.height * p.width) (low : p.top ≤ y)
-    (high : y + count ≤ p.top + p.height)
-    (begins : start ≡ (y - p.top) * p.width) (wide : length new ≡ count * p.width) (read : lent ≡ v.items) (written : left ≡ new) where
-  abbrev put : List Colour
-  put = take start lent ++ (left ++ drop (start + length new - start) (drop start lent))
-
-  put_is : put ≡ pasted_at start new v.items
-  put_is =
-      ap (λ l. take start l ++ (left ++ drop (start + length new - start) (drop start l))) read
-      ∙ ap (λ l. take start v.items ++ (l ++ drop (start + length new - start) (drop start v.items))) written
-      ∙ ap (λ k. take start v.items ++ (new ++ drop k (drop start v.items))) {x = start + length new - start} {y = length new} (omega arith)
-
-  items_put : (with_items v put).items ≡ pasted_at start new v.items
-  items_put =
-      with_items_is v put (ap length put_is
-      ∙ length-pasted_at start new v.items (rows_within p (length v.items) y start count (length new) counted low high begins wide) ∙ sym v.ok.0)
-      ∙ put_is
-
-  pub vec_put_rows_is : (depths : List (List ℕ)) → of_rows p (rows_over p (with_items v put).items) depths
-      ≡ with_rows_from (of_rows p (rows_over p v.items) depths) y (cut_rows p.width count new)
-  vec_put_rows_is depths = ap (λ l. of_rows p (rows_over p l) depths) items_put ∙ put_rows_is p v.items depths y start count new counted low high begins wide
-
-  pub vec_put_counted : length (with_items v put).items ≡ p.height * p.width
-  vec_put_counted = ap length items_put
-      ∙ length-pasted_at start new v.items (rows_within p (length v.items) y start count (length new) counted low high begins wide) ∙ counted
+put_rows_is p items depths y start count new counted low high begins wide =
+    let w : ℕ = p.width in
+    let within : y - p.top + count ≤ p.height = omega arith in
+    let long : p.height * p.width ≤ length items = omega arith in
+    rw (begins, rows_parted w (y - p.top) count p.height items within long new wide, rows_now w (y - p.top) count p.height items within long)
+    (rows_set p depths y _ _ _ _ low (length-cut_rows w (y - p.top) _) (length-cut_rows w count _ ∙ sym (length-cut_rows w count new)))
 
 -- ---- a tile's fields
 pub FillsPlace-flat : {X : Type 0} (p : Place) (value : X) → IsTilePlace p → FillsPlace p (flat_over p value)
@@ -246,7 +186,7 @@ FillsPlace-flat p value placed = record {
 -- what is listed, or one value everywhere
 pub FillsPlace-shown : {X : Type 0} (p : Place) (made : Bool) (items : List X) (value : X) → IsTilePlace p → (made ≡ true → length items ≡ p.height * p.width)
     → FillsPlace p (if made then rows_over p items else flat_over p value)
-FillsPlace-shown p true items value placed counted = FillsPlace-rows_over p items placed (counted refl)
+FillsPlace-shown p true items value placed counted = FillsPlace-rows_over p items (counted refl) placed
 FillsPlace-shown p false items value placed counted = FillsPlace-flat p value placed
 
 pub IsTile-filled : (p : Place) (made : Bool) (colours : List Colour) (depths : List ℕ) (row : List Colour) (is_flat : Bool) (flat : Option ℕ)
@@ -257,35 +197,30 @@ IsTile-filled p made colours depths row is_flat flat i = record {
   depths = FillsPlace-shown p made depths (unwrap_or flat 65535) i.placed i.deep_counted;
 }
 
--- one value everywhere, whether it is listed or not
+-- one value everywhere
+pub rows_flat : {X : Type 0} (p : Place) (items : List X) (value : X) → items ≡ replicate (p.height * p.width) value → rows_over p items ≡ flat_over p value
+rows_flat p items value same = ap (λ l. rows_over p l) same ∙ cut_rows-replicate p.width p.height value
+
+-- the same, whether it is listed or not
 pub shown_flat : {X : Type 0} (p : Place) (made : Bool) (items : List X) (value : X) → (made ≡ true → items ≡ replicate (p.height * p.width) value)
     → (if made then rows_over p items else flat_over p value) ≡ flat_over p value
-shown_flat p true items value same = ap (λ l. rows_over p l) (same refl) ∙ cut_rows-replicate p.width p.height value
+shown_flat p true items value same = rows_flat p items value (same refl)
 shown_flat p false items value same = refl
 
--- all items of a Vec were given one value
-pub items_filled : {X : Type 0} (v : Vec X) (lent new : List X) (value : X) (n : ℕ) → lent ≡ v.items → new ≡ replicate (length lent) value
-    → length v.items ≡ n → (with_items v new).items ≡ replicate n value
-items_filled v lent new value n read filled counted =
-    let wide : length new ≡ length v.items = ap length filled ∙ length-replicate (length lent) value ∙ ap length read in
-    with_items_is v new (wide ∙ sym v.ok.0) ∙ filled ∙ ap (λ k. replicate k value) (ap length read ∙ counted)
+-- all items were given one value
+module _ {X : Type 0} (p : Place) (made : Bool) (old new : List X) (value : X) (counted : made ≡ true → length old ≡ p.height * p.width)
+    (filled : new ≡ replicate (length old) value) where
+  pub counted_filled : made ≡ true → length new ≡ p.height * p.width
+  counted_filled is = ap length filled ∙ length-replicate (length old) value ∙ counted is
 
--- a pixel's column lies in its rows
-pub column_within : (t : TileImage) (p : Place) (x y : ℕ) → p ≡ t.place → IsTileImage t → Holds t.place x y → (x - p.left < length (row_of t y))
-    × (x - p.left < length (depth_row_of t y))
-column_within t p x y same filled held =
-    let crossed : HasRow t.place y = HasRow-from_Holds t.place x y held in (
-      omega (arith, ap (λ q. q.left) same, held.from_left, held.to_right, length-row_of t y filled crossed),
-      omega (arith, ap (λ q. q.left) same, held.from_left, held.to_right, length-depth_row_of t y filled crossed),
-    )
+  pub shown_filled : (if made then rows_over p new else flat_over p value) ≡ flat_over p value
+  shown_filled = shown_flat p made new value (λ is. filled ∙ ap (λ n. replicate n value) (counted is))
 
 -- ---- several rows are read
 module _ {X : Type 0} (p : Place) (items : List X) (y start count end : ℕ) (counted : length items ≡ p.height * p.width) (low : p.top ≤ y)
     (high : y + count ≤ p.top + p.height) (begins : start ≡ (y - p.top) * p.width) (ends : end ≡ (y + count - p.top) * p.width) where
   pub strip_ends : end ≡ start + count * p.width
-  strip_ends =
-      ends ∙ ap (λ k. k * p.width) {x = y + count - p.top} {y = y - p.top + count} (omega arith) ∙ add-mul (y - p.top) count p.width
-      ∙ ap (λ k. k + count * p.width) (sym begins)
+  strip_ends = let at : y + count - p.top ≡ y - p.top + count = omega arith in ends ∙ rw (at, begins) (add-mul (y - p.top) count p.width)
 
   pub strip_within : end ≤ length items
   strip_within = omega (arith, strip_ends, rows_within p (length items) y start count (count * p.width) counted low high begins refl)
@@ -293,8 +228,8 @@ module _ {X : Type 0} (p : Place) (items : List X) (y start count end : ℕ) (co
   abbrev strip : List X
   strip = take (end - start) (drop start items)
 
-  pub length-strip : length strip ≡ count * p.width
-  length-strip = length-take-le (end - start) (drop start items) (omega (arith, strip_within, length-drop start items)) ∙ omega (arith, strip_ends)
+  pub length_strip : length strip ≡ count * p.width
+  length_strip = length-take-le (end - start) (drop start items) (omega (arith, strip_within, length-drop start items)) ∙ omega (arith, strip_ends)
 
   pub strip_row : (n : ℕ) → n < count → row_cut p.width n strip ≡ row_in p (rows_over p items) (y + n)
   strip_row n below =

@@ -2,7 +2,8 @@
 use Rattle.std.proofs.Common.{◌≡◌, ◌≢◌, ℕ, zero, suc, ◌+◌, ◌-◌, ◌<◌, ◌≤◌, List, [], ◌∷◌, ◌++◌, length, get_or, take, replicate, refl, sym, ap, ◌∙◌, arith}
 use Rattle.std.specs.Prelude.{map}
 use Rattle.std.specs.List.{refill, range_with_len}
-use Rattle.std.proofs.lemmas.List.{length-set, take_all, drop_all, append-nil, ext_get_or, get_or-set_same, get_or-set_other, set-set, set-get_or}
+use Rattle.std.proofs.lemmas.List.{get_or_default, length-set, take_all, drop_all, append-nil, ext_get_or}
+use Rattle.std.proofs.lemmas.List.{get_or-set_same, get_or-set_other, set-set, set-get_or}
 use Rattle.std.proofs.lemmas.List.FromFn.{get_or-map-range_with_len, length-map-range_with_len}
 use Rattle.std.proofs.lemmas.List.Elements.{All-get_or, All-set, All-from_get_or}
 use Rattle.fd_blend.specs.declared.channel.Colour.{Colour}
@@ -10,7 +11,7 @@ use Rattle.fd_blend.specs.Channel.{fresh}
 use Rattle.fd_tile.specs.declared.place.Place.{Place}
 use Rattle.fd_tile.specs.Place.{Holds, HasRow, IsTilePlace, over_place}
 use Rattle.fd_tile.specs.Tile.{TileImage, FillsPlace, IsFlat, IsTileImage, row_in, with_row_in, value_in, row_of, with_row, with_row_left}
-use Rattle.fd_tile.specs.Tile.{depth_row_of, pixels_of, pixel_of, pixel_in}
+use Rattle.fd_tile.specs.Tile.{depth_row_of, depth_in, pixels_of, pixel_of, pixel_in}
 
 -- a list of the right length is left as it is
 pub refill_same : {X : Type 0} (row w : List X) → length w ≡ length row → refill (length row) row w ≡ w
@@ -72,6 +73,17 @@ module _ (t : TileImage) (y : ℕ) (filled : IsTileImage t) (crossed : HasRow t.
 
   pub IsTileImage-with_row : (w : List Colour) → length w ≡ t.place.width → IsTileImage (with_row t y w)
   IsTileImage-with_row w e = record { colours = FillsPlace-with_row_in t.place t.rows y filled.colours crossed w e; depths = filled.depths }
+
+-- a pixel's column lies in its rows
+module _ (t : TileImage) (x y : ℕ) (filled : IsTileImage t) (held : Holds t.place x y) where
+  pub colour_within : x - t.place.left < length (row_of t y)
+  colour_within = omega (arith, held.from_left, held.to_right, length-row_of t y filled (HasRow-from_Holds t.place x y held))
+
+  pub depth_within : x - t.place.left < length (depth_row_of t y)
+  depth_within = omega (arith, held.from_left, held.to_right, length-depth_row_of t y filled (HasRow-from_Holds t.place x y held))
+
+  pub depth_at : get_or (depth_row_of t y) (x - t.place.left) 0 ≡ depth_in t x y
+  depth_at = get_or_default (depth_row_of t y) (x - t.place.left) 0 65535 depth_within
 
 -- ---- all pixels
 

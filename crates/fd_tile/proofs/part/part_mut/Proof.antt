@@ -7,27 +7,23 @@ use mathlib.Core.List.{List, [], ◌∷◌, ◌++◌}
 use lib.ListN.{length, take, drop as drop_list, take-append-drop, length-drop, length-append}
 use lib.Seq.{take_at}
 use seplogic.Ra.Ura.{Ura}
-use mir.Syntax.{Args, Dict, Fn, named, w64, a_type, dcons, dnil}
+use mir.Syntax.{Args, Dict, named, w64, a_type, dcons, dnil}
 use mir.MapTy.{inst_fn}
-use mir.Val.{Val, vint, vptr}
+use mir.Val.{Val, vint}
 use base.Logic.{SProp, ent, sep, ex, emp, id⊢}
 use base.Stored.{coded_list}
 use base.Fml.{Lft, GName, Share, ftrue, flft, fobs, fbor}
-use prog.Memory.{Memory, size, capped}
+use prog.Memory.{size, capped}
 use prog.Capped.{capped_is}
-use prog.Routine.{Routine}
-use prog.Wp.{Env, WpFn, Tables}
 use types.Logic.{Logic, sem}
 use contract.BorrowLft.{◌⊑◌}
-use contract.Lifetimes.{AllOutlive}
-use contract.Monad.{Fun, fact, fact_i}
-use contract.Running.{tables, tables_of}
-use sound.WpLaws.{fm_of, WpFn-mono}
-use types.Kit.{use0, Item, ‵, ◌⊛◌, raw, given, some, later, ◌$◌, ◌∵◌, !, qed, by, move, keep, drop, split, split3, join, group, learn, rewrite}
+use contract.Monad.{fact, fact_i}
+use contract.Running.{tables}
+use types.Kit.{use0, Item, mean, ‵, ◌⊛◌, raw, given, some, later, ◌$◌, ◌∵◌, !, qed, move, keep, drop, split, split3, join, group, learn, rewrite}
 use types.Kit.{updating, now, show, fsplit, fsplit3, fjoin, feq_i, feq_l, use1, use2, await, pick, suffices, frame, done}
 use types.Part.{whole, sub, agg}
 use types.Run.{stop, fld, addr, bin, and_then, no_more, returns, enter, size_word}
-use types.ByLocal.{alloc_all, pass_all, free_all, look_at, get, get_in, is as is_now, through, sets, lands_as, env}
+use types.ByLocal.{alloc_all, pass_all, free_all, look_at, get, get_in, is as is_now, through, sets, lands_as}
 use types.SemTy.{cells, Arr, Body}
 use types.Follow.{takes_part}
 use types.Mut.{open_ref}
@@ -45,16 +41,13 @@ use denote.Steps.{nothing, heard, only}
 use denote.Shadow.{pure_l, pure_i}
 use denote.Follow.{follows, follows_then}
 use denote.FollowSlice.{heres_id, slice_of}
-use denote.Triple.Clauses.{Clauses, Ended, closing}
-use denote.Triple.Entry.{on_entry}
-use denote.Triple.Spec.{Meets, triple_of}
-use denote.Triple.Statement.{Contract, Triple}
-use denote.Triple.Table.{entered}
+use denote.Triple.Spec.{triple_of}
+use denote.Triple.Table.{framed}
 use denote.Triple.Call.{calls_at}
-use denote.Triple.Clauses.{Lasts, lasts}
-use denote.Param.Laws.{Laws}
-use denote.Triple.Walked.{says, Stays, stay_dropped, walk_of, ends_at, walked, Goes-dropped, Goes-spent_ref, walk_Meets}
+use denote.Triple.Clauses.{Ended, Lasts, lasts}
+use denote.Triple.Walked.{says, Stays, stay_dropped, walk_of, ends_at, Goes-dropped, Goes-spent_ref}
 use borrow.Table.Elements.{at, at_mul, cut_app, join_app, length-take-le}
+use Rattle.std.proofs.raw_atomic.Walks.{proved}
 use Rattle.std.specs.Vec.{with_items}
 use Rattle.std.specs.declared.alloc.Allocator.{Ghosts}
 use Rattle.std.specs.contracts.vec.Vec as vec
@@ -121,12 +114,9 @@ module _ {M : Type 1} {𝓤 : Ura M} (𝓛 : Logic 𝓤) (κ : Lft) (q : Share) 
   part_lent δ = ‵ ((MutSlice (named 0) κ R).own_val (record { ref_ptr = (b, p); ghost_name = δ; now = mid }) (slice_val (b, p) (length mid) ∷ [])) ⊛ ‵
       (flft κ q) ⊛ ‵ (follows (Array R 0) (Array R 0) γ δ (part_left xs m e))
 
-  abbrev pub PartLent : GName → SProp 𝓤
-  PartLent δ = sep 𝓤 (sem 𝓛 ((MutSlice (named 0) κ R).own_val (record { ref_ptr = (b, p); ghost_name = δ; now = mid }) (slice_val (b, p) (length mid) ∷ [])))
-      (sep 𝓤 (A.lft κ q) (sem 𝓛 (follows (Array R 0) (Array R 0) γ δ (part_left xs m e))))
-
   pub lends_part : (vs : List Val)
-      → ent 𝓤 (sep 𝓤 (sem 𝓛 ((MutSlice (named 0) κ R).own_val (record { ref_ptr = (b, o); ghost_name = γ; now = xs }) vs)) (A.lft κ q)) (H.⇛ (ex 𝓤 PartLent))
+      → ent 𝓤 (sep 𝓤 (sem 𝓛 ((MutSlice (named 0) κ R).own_val (record { ref_ptr = (b, o); ghost_name = γ; now = xs }) vs)) (A.lft κ q))
+      (H.⇛ (ex 𝓤 (λ δ. mean 𝓛 (part_lent δ))))
   lends_part vs = qed 𝓛 (‵ ((MutSlice (named 0) κ R).own_val (record { ref_ptr = (b, o); ghost_name = γ; now = xs }) vs) ∷ ‵ (flft κ q) ∷ []) ∵ updating ! $
       fsplit3 ! $ drop ! $
       rewrite ! 0 (λ (l : List R.Denot). ‵ (fobs γ ((coded_list R.coded).code l))) (heres_id R xs) refl $ open_ref ! tt (Arr (mem R) (length xs)) {b = b}
@@ -142,15 +132,12 @@ module _ {M : Type 1} {𝓤 : Ura M} (𝓛 : Logic 𝓤) (κ : Lft) (q : Share) 
       (takes_part 𝓛 (Arr (mem R) (length xs)) (Arr (mem R) (length mid)) (part_left xs m e) κ q b o b p γ Others put ((coded_list R.coded).code xs)
       ((coded_list R.coded).code xs) mid) $ await ! tt $ pick ! (λ δ. split3 ! $
       use2 𝓛 (‵ ((MutSlice (named 0) κ R).own_val (record { ref_ptr = (b, p); ghost_name = δ; now = mid }) (slice_val (b, p) (length mid) ∷ [])))
-      (slice_of 𝓛 R (named 0) κ b p δ mid (subst (Room R) (sym mid_long) rm)) $ now ! $ show ! PartLent δ $ done !)
+      (slice_of 𝓛 R (named 0) κ b p δ mid (subst (Room R) (sym mid_long) rm)) $ now ! $ show ! (λ δ. mean 𝓛 (part_lent δ)) δ $ done !)
 
 -- ---- the code
 module _ (X Z : RattleType) (g : Ghosts Z.Denot) (d dd : Dict) where
   abbrev args : Args
   args = bounded (a_type ∷ a_type ∷ []) (X, (Z, tt)) (dcons d (dcons dd dnil))
-
-  abbrev function : Fn
-  function = inst_fn args code.function
 
   abbrev R : RattleType
   R = param 0 X
@@ -164,117 +151,79 @@ module _ (X Z : RattleType) (g : Ghosts Z.Denot) (d dd : Dict) where
   abbrev stayed : Stays ended.signature.params ended.kept
   stayed = (stay_dropped (mut_ref_to (0 ∷ []) tt (plain (λ _. V))) no, (stay_dropped (plain (λ _. usize)) yes, (stay_dropped (plain (λ _. usize)) yes, tt)))
 
-module _ (X Z : RattleType) (L : Laws X) (g : Ghosts Z.Denot) (d dd : Dict) {M : Type 1} {𝓤 : Ura M} (𝓛 : Logic 𝓤) (at_mem : Memory → SProp 𝓤)
-    (run : Routine → Fun 𝓤) where
-  open 𝓛 use {H}
-
-  abbrev clauses : Clauses 𝓤 (ended X Z g d dd)
-  clauses = F.clauses X Z g d dd 𝓛 at_mem run
-
-  abbrev k : Contract 𝓤
-  k = triple_of 𝓛 (callee.signature X Z g d dd) (callee.spec X Z g d dd 𝓛 at_mem run)
-
-  module _ (𝓣 : Tables 𝓤 H) (known : Triple 𝓤 (𝓣.C (callee.Key.name (args X Z g d dd))) k) (κ κT κZ : Lft) (q qT qZ : Share)
-      (bd : AllOutlive 3 (ended X Z g d dd).signature.outlives (κ, (κT, (κZ, tt)))) (b o : ℕ) (γ : GName) (v : (V X Z g d dd).Denot) (m e : ℕ) where
-    abbrev self : MutBor (V X Z g d dd).Denot
-    self = record { ref_ptr = (b, o); ghost_name = γ; now = v }
-
-    abbrev bound : (walk_of 𝓛 (ended X Z g d dd) (stayed X Z g d dd) clauses).Ghost
-    bound = (((κ, (κT, (κZ, tt))), (q, (qT, (qZ, tt))), bd, (self, (m, (e, tt))), (mut_vals self, (vint w64 m ∷ [], (vint w64 e ∷ [], tt)))), tt)
-
-    abbrev Post : Val → SProp 𝓤
-    Post = (walk_of 𝓛 (ended X Z g d dd) (stayed X Z g d dd) clauses).post bound
-
-    abbrev y : k.Ghost
-    y = (((κ, (κT, (κZ, tt))), (q, (qT, (qZ, tt))), bd, (self, tt), (mut_vals self, tt)), tt)
-
-    walk : κT ⊑ X.lives → κZ ⊑ Z.lives → m < 2 ^ 64 → e < 2 ^ 64 → m ≤ e → e ≤ length v.items
-        → ent 𝓤 (on_entry 𝓛 (ended X Z g d dd).signature (κ, (κT, (κZ, tt))) (q, (qT, (qZ, tt))) (self, (m, (e, tt)))
-        (mut_vals self, (vint w64 m ∷ [], (vint w64 e ∷ [], tt)))) (WpFn 𝓤 H 𝓣.C 𝓣.Λ (function X Z g d dd) (vptr b o ∷ vint w64 m ∷ vint w64 e ∷ []) Post)
-    walk aT aZ fm fe ordered within =
-        let s : ℕ = size (layout X) in
-        let p : ℕ = m * s + o in
-        qed 𝓛 ((‵ (flft κ q) ⊛ ‵ (flft κT qT) ⊛ ‵ (flft κZ qZ) ⊛ ‵ ftrue) ∷ ‵
-        (owns (MutRef (named 0) κ (V X Z g d dd) ∷ usize ∷ usize ∷ []) (self, (m, (e, tt))) (mut_vals self, (vint w64 m ∷ [], (vint w64 e ∷ [], tt)))) ∷
-        []) ∵ enter ! 𝓣.C 𝓣.Λ (function X Z g d dd) (vptr b o ∷ vint w64 m ∷ vint w64 e ∷ []) _ $
-        alloc_all ! (λ l. pass_all ! refl ((tt, tt), ((tt, record { fits = fm }), ((tt, record { fits = fe }), tt))) $
-        let En : Env 𝓤 H = env (function X Z g d dd).locals l in
-        sets ! (addr ! (through ! refl (stop !))) refl (tt, tt) $
-        move ! (1 ∷ []) $ fsplit ! $ move ! (1 ∷ []) $ drop ! $ nothing ! $ move ! (1 ∷ 0 ∷ []) $ fjoin ! $ move ! (1 ∷ 0 ∷ []) $ join ! $
-        use0 𝓛 (raw (fact 𝓤 (κT ⊑ X.lives))) (fact_i 𝓤 _ (emp 𝓤) aT) $
-        use0 𝓛 (raw (fact 𝓤 (κZ ⊑ Z.lives))) (fact_i 𝓤 _ (emp 𝓤) aZ) $ move ! (1 ∷ 0 ∷ []) $ nothing ! $ move ! (2 ∷ 0 ∷ []) $ join ! $ move !
-        (1 ∷ 0 ∷ []) $ join ! $ move ! (1 ∷ 0 ∷ []) $ join ! $ use1 𝓛 (raw (k.pre y)) (id⊢ 𝓤 _) $
-        calls_at ! (fm_of 𝓤 H 𝓛.laws 𝓣) k known y (and_then ! (get ! refl) (no_more !)) (λ u.
-        use1 𝓛 (later (some (λ (r : MutBor (List X.Denot)).
-        ((‵ (flft κ q) ⊛ ‵ (flft κT qT) ⊛ ‵ (flft κZ qZ) ⊛ ‵ ftrue) ⊛ ‵ ((MutSlice (named 0) κ (R X Z g d dd)).own_val r (u ∷ []))) ⊛
-        some (λ (ws : Lasts (callee.ended X Z g d dd) (κ, (κT, (κZ, tt))) y.0.3). ‵ (lasts (callee.ended X Z g d dd) (κ, (κT, (κZ, tt))) y.0.3 ws) ⊛
-        (‵ (follows (V X Z g d dd) (Array (R X Z g d dd) 0) γ r.ghost_name (with_items v)) ⊛
-        (raw (fact 𝓤 (r.now ≡ v.items)) ⊛ raw (fact 𝓤 (length r.now ≡ v.len)))))))) (id⊢ 𝓤 (k.post y u)) $
-        await ! tt $ pick ! (λ r. split ! $ split ! $ move ! (2 ∷ []) $ pick ! (λ ws. split ! $ drop ! $ split ! $ move ! (1 ∷ []) $ split ! $ heard ! _
-        (λ value. drop ! $
-        -- [what the Vec follows; the tokens; the slice]
-        move ! (2 ∷ []) $ rewrite ! 0
-        (λ (l : List X.Denot). ‵ ((MutSlice (named 0) κ (R X Z g d dd)).own_val (record { ref_ptr = r.ref_ptr; ghost_name = r.ghost_name; now = l })
-        (u ∷ []))) value refl $
-        fsplit ! $ fsplit ! $ feq_l ! (λ is. pure_l ! (room (R X Z g d dd) (length v.items)) (λ rm.
-        let b' : ℕ = r.ref_ptr.0 in
-        let o' : ℕ = r.ref_ptr.1 in
-        let all : MutBor (List X.Denot) = record { ref_ptr = (r.ref_ptr.0, r.ref_ptr.1); ghost_name = r.ghost_name; now = v.items } in
-        let p : ℕ = m * s + o' in
-        let fits : length v.items * s < 2 ^ 63 = rm.1 in
-        let before : m * s ≤ length v.items * s = mul-le-mul_right s (omega arith) in
-        let fs : m * s < 2 ^ 64 = omega arith in
-        let part : (e - m) * s ≤ length v.items * s = mul-le-mul_right s (omega arith) in
-        let fr : e - m < 2 ^ 64 = omega arith in
-        let fits_part : Room (R X Z g d dd) (e - m) = (fr, omega arith) in
-        let lent : List X.Denot = take (e - m) (drop_list m v.items) in
-        let long : length lent ≡ e - m = mid_long 𝓛 κ q b' o' r.ghost_name (R X Z g d dd) v.items m e ordered within p refl fits_part in
-        pure_i ! (mut_slice_at (R X Z g d dd) all (slice_val (b', o') (length v.items) ∷ [])) (tt, (tt, tt)) (refl, rm) $ fjoin ! $
-        -- [the slice; what the Vec follows; the tokens]
-        lands_as ! (ap only is) refl (tt, (tt, (record { fits = rm.0 }, tt))) $
-        sets ! (is_now ! (bin ! (get ! refl) (size_word !) (record { fits = subst (λ (k : ℕ). k < 2 ^ 64) (sym (uncapped m s fs)) fs }))
-        (ap (vint w64) (uncapped m s fs))) refl (tt, record { fits = fs }) $
-        sets ! (bin ! (get_in ! (fld ! refl (stop !)) (sub ! 0 refl (whole !))) (get ! refl) tt) refl (tt, tt) $
-        sets ! (bin ! (get ! refl) (get ! refl) ordered) refl (tt, record { fits = fr }) $
-        sets ! (addr ! (through ! refl (stop !))) refl (tt, tt) $
-        sets ! (agg ! (and_then ! (get ! refl) (and_then ! (get ! refl) (no_more !)))) refl (tt, (tt, (record { fits = fr }, tt))) $
-        move ! (2 ∷ []) $ split ! $ move ! (2 ∷ 0 ∷ []) $
-        use2 𝓛 (later (some (part_lent 𝓛 κ q b' o' r.ghost_name (R X Z g d dd) v.items m e ordered within p refl fits_part)))
-        (lends_part 𝓛 κ q b' o' r.ghost_name (R X Z g d dd) v.items m e ordered within p refl fits_part (mut_slice_vals all)) $ await ! tt $ pick !
-        (λ δ. split3 ! $
-        move ! (4 ∷ 2 ∷ []) $
-        use2 𝓛 (‵ (follows (V X Z g d dd) (Array (R X Z g d dd) 0) γ δ (λ left. with_items v (part_left v.items m e left))))
-        (follows_then 𝓛 (V X Z g d dd) (Array (R X Z g d dd) 0) (Array (R X Z g d dd) 0) (with_items v) (part_left v.items m e) γ r.ghost_name δ) $
-        returns ! (look_at ! 0 refl) $ free_all ! refl $ keep ! (1 ∷ 2 ∷ 0 ∷ 3 ∷ []) $
-        rewrite ! 0 (λ (j : ℕ). ‵ ((MutSlice (named 0) κ (R X Z g d dd)).own_val (record { ref_ptr = (b', p); ghost_name = δ; now = lent })
-        (slice_val (b', p) j ∷ []))) long refl $
-        suffices ! _ (ends_at 𝓛 (ended X Z g d dd) (stayed X Z g d dd) clauses bound (slice_val (b', p) (e - m))
-        (record { ref_ptr = (b', p); ghost_name = δ; now = lent }) (tt, (tt, (tt, tt))) (tt, (tt, (tt, tt)))) $
-        nothing ! $ nothing ! $ fjoin ! $ nothing ! $ fjoin ! $ nothing ! $ fjoin ! $ join ! $ move ! (1 ∷ 3 ∷ []) $ join ! $ join ! $ frame ! $ says ! refl $
-        done !))))))))
-
-  meets : (𝓣 : Tables 𝓤 H) → Triple 𝓤 (𝓣.C (callee.Key.name (args X Z g d dd))) k
-      → Meets 𝓛 (ended X Z g d dd).signature (WpFn 𝓤 H 𝓣.C 𝓣.Λ (function X Z g d dd)) (closing 𝓛 (ended X Z g d dd) clauses)
-  meets 𝓣 known =
-      walk_Meets 𝓛 (ended X Z g d dd) (stayed X Z g d dd) (
-        Goes-spent_ref 𝓛 3 (0 ∷ []) tt (plain (λ _. V X Z g d dd)),
-        (Goes-dropped 𝓛 3 (plain (λ _. usize)) yes (λ κs x f. refl), (Goes-dropped 𝓛 3 (plain (λ _. usize)) yes (λ κs x f. refl), tt)),
-      ) clauses
-      (WpFn 𝓤 H 𝓣.C 𝓣.Λ (function X Z g d dd)) (WpFn-mono 𝓤 H 𝓛.laws 𝓣 (function X Z g d dd))
-      (walked 𝓛 (ended X Z g d dd) (stayed X Z g d dd) clauses (WpFn 𝓤 H 𝓣.C 𝓣.Λ (function X Z g d dd))
-      (λ κs. (mut_vals, (uint_vals w64, (uint_vals w64, tt)))) (λ κs. (mut_Tells (named 0) κs.0 (V X Z g d dd), (uint_Tells w64, (uint_Tells w64, tt))))
-      (λ κs qs bounds a gh are.
-      let On : SProp 𝓤 = on_entry 𝓛 (ended X Z g d dd).signature κs qs a (mut_vals a.0, (vint w64 a.1.0 ∷ [], (vint w64 a.1.1.0 ∷ [], tt))) in
-      qed 𝓛 (raw On ∷ (given (κs.1.0 ⊑ X.lives) (‵ ftrue) ⊛ given (κs.1.1.0 ⊑ Z.lives) (‵ ftrue) ⊛ given (a.1.0 ≤ a.1.1.0) (‵ ftrue) ⊛ given
-      (a.1.1.0 ≤ length a.0.now.items) (‵ ftrue)) ∷ []) ∵
-      move ! (1 ∷ []) $ split3 ! $ learn ! (λ aT. drop ! $ learn ! (λ aZ. drop ! $ split ! $ learn ! (λ lo. drop ! $ learn ! (λ le. drop ! $
-      by ! (walk 𝓣 known κs.0 κs.1.0 κs.1.1.0 qs.0 qs.1.0 qs.1.1.0 bounds a.0.ref_ptr.0 a.0.ref_ptr.1 a.0.ghost_name a.0.now a.1.0 a.1.1.0 aT aZ are.1.0.1
-      are.1.1.0.1 lo le)))))))
-
 pub part_mut_spec : {M : Type 1} → stated.statement M
-unfolding tables_of
 part_mut_spec 𝓤 𝓛 𝓜 𝓡 wired X Z L LZ g d dd allocator glued =
-    let 𝓣 : Tables 𝓤 𝓛.H = tables_of 𝓤 𝓛.H 𝓜 (tables 𝓤 𝓛.H 𝓜 𝓡 𝓡.env) in
-    entered 𝓤 𝓛.H (triple_of 𝓛 (ended X Z g d dd).signature (F.spec X Z g d dd 𝓛 𝓜.mem 𝓡.returns)) 𝓣.C 𝓣.Λ (#self (args X Z g d dd)) (function X Z g d dd)
-    (code.unfolded 𝓤 𝓛.H 𝓜 𝓡 wired (X, (Z, tt)) d dd)
-    (meets X Z L g d dd 𝓛 𝓜.mem 𝓡.returns 𝓣 (met 𝓤 𝓛 𝓜 𝓡 (code.calls-std_alloc::vec::Vec::as_mut_slice 𝓡.env wired) X Z L LZ g d dd allocator glued))
+    let T = ended X Z g d dd in let hs = stayed X Z g d dd in
+    let c = F.clauses X Z g d dd 𝓛 𝓜.mem 𝓡.returns in
+    let k = triple_of 𝓛 (callee.signature X Z g d dd) (callee.spec X Z g d dd 𝓛 𝓜.mem 𝓡.returns) in
+    let dropped = Goes-dropped 𝓛 3 (plain (λ _. usize)) yes (λ κs x f. refl) in
+    proved 𝓛 T hs c 𝓜 𝓡 (Goes-spent_ref 𝓛 3 (0 ∷ []) tt (plain (λ _. V X Z g d dd)), (dropped, (dropped, tt)))
+    (#self (args X Z g d dd)) (inst_fn (args X Z g d dd) code.function) (code.unfolded 𝓤 𝓛.H 𝓜 𝓡 wired (X, (Z, tt)) d dd)
+    (λ κs. (mut_vals, (uint_vals w64, (uint_vals w64, tt)))) (λ κs. (mut_Tells (named 0) κs.0 (V X Z g d dd), (uint_Tells w64, (uint_Tells w64, tt))))
+    (λ κs qs bounds a gh are.
+    let κ = κs.0 in let κT = κs.1.0 in let κZ = κs.1.1.0 in
+    let q = qs.0 in let qT = qs.1.0 in let qZ = qs.1.1.0 in
+    let γ = a.0.ghost_name in let v = a.0.now in
+    let m = a.1.0 in let e = a.1.1.0 in
+    let bound : (walk_of 𝓛 T hs c).Ghost = ((κs, qs, bounds, a, (mut_vals a.0, (vint w64 m ∷ [], (vint w64 e ∷ [], tt)))), tt) in
+    let y : k.Ghost = ((κs, qs, bounds, (a.0, tt), (mut_vals a.0, tt)), tt) in
+    let s : ℕ = size (layout X) in
+    qed 𝓛 (((‵ (flft κ q) ⊛ ‵ (flft κT qT) ⊛ ‵ (flft κZ qZ) ⊛ ‵ ftrue) ⊛ ‵ (owns (MutRef (named 0) κ (V X Z g d dd) ∷ usize ∷ usize ∷ []) a bound.0.4)) ∷
+    (given (κT ⊑ X.lives) (‵ ftrue) ⊛ given (κZ ⊑ Z.lives) (‵ ftrue) ⊛ given (m ≤ e) (‵ ftrue) ⊛ given (e ≤ length v.items) (‵ ftrue)) ∷ []) ∵
+    move ! (1 ∷ []) $ split3 ! $ learn ! (λ aT. drop ! $ learn ! (λ aZ. drop ! $ split ! $ learn ! (λ ordered. drop ! $ learn ! (λ within. drop ! $ split ! $
+    enter ! _ _ _ _ _ $
+    alloc_all ! (λ l. pass_all ! refl ((tt, tt), ((tt, record { fits = are.1.0.1 }), ((tt, record { fits = are.1.1.0.1 }), tt))) $
+    sets ! (addr ! (through ! refl (stop !))) refl (tt, tt) $
+    move ! (1 ∷ []) $ fsplit ! $ move ! (1 ∷ []) $ drop ! $ nothing ! $ move ! (1 ∷ 0 ∷ []) $ fjoin ! $ move ! (1 ∷ 0 ∷ []) $ join ! $
+    use0 𝓛 (raw (fact 𝓤 (κT ⊑ X.lives))) (fact_i 𝓤 _ (emp 𝓤) aT) $
+    use0 𝓛 (raw (fact 𝓤 (κZ ⊑ Z.lives))) (fact_i 𝓤 _ (emp 𝓤) aZ) $ move ! (1 ∷ 0 ∷ []) $ nothing ! $ move ! (2 ∷ 0 ∷ []) $ join ! $ move !
+    (1 ∷ 0 ∷ []) $ join ! $ move ! (1 ∷ 0 ∷ []) $ join ! $ use1 𝓛 (raw (k.pre y)) (id⊢ 𝓤 _) $
+    calls_at ! (framed 𝓤 𝓛.H 𝓜 (tables 𝓤 𝓛.H 𝓜 𝓡 𝓡.env)) k
+    (met 𝓤 𝓛 𝓜 𝓡 (code.calls-std_alloc::vec::Vec::as_mut_slice 𝓡.env wired) X Z L LZ g d dd allocator glued) y (and_then ! (get ! refl) (no_more !)) (λ u.
+    use1 𝓛 (later (some (λ (r : MutBor (List X.Denot)).
+    ((‵ (flft κ q) ⊛ ‵ (flft κT qT) ⊛ ‵ (flft κZ qZ) ⊛ ‵ ftrue) ⊛ ‵ ((MutSlice (named 0) κ (R X Z g d dd)).own_val r (u ∷ []))) ⊛
+    some (λ (ws : Lasts (callee.ended X Z g d dd) κs y.0.3). ‵ (lasts (callee.ended X Z g d dd) κs y.0.3 ws) ⊛
+    (‵ (follows (V X Z g d dd) (Array (R X Z g d dd) 0) γ r.ghost_name (with_items v)) ⊛
+    (raw (fact 𝓤 (r.now ≡ v.items)) ⊛ raw (fact 𝓤 (length r.now ≡ v.len)))))))) (id⊢ 𝓤 (k.post y u)) $
+    await ! tt $ pick ! (λ r. split ! $ split ! $ move ! (2 ∷ []) $ pick ! (λ ws. split ! $ drop ! $ split ! $ move ! (1 ∷ []) $ split ! $ heard ! _
+    (λ value. drop ! $
+    -- [what the Vec follows; the tokens; the slice]
+    move ! (2 ∷ []) $ rewrite ! 0
+    (λ (l : List X.Denot). ‵ ((MutSlice (named 0) κ (R X Z g d dd)).own_val (record { ref_ptr = r.ref_ptr; ghost_name = r.ghost_name; now = l })
+    (u ∷ []))) value refl $
+    fsplit ! $ fsplit ! $ feq_l ! (λ is. pure_l ! (room (R X Z g d dd) (length v.items)) (λ rm.
+    let b' : ℕ = r.ref_ptr.0 in
+    let o' : ℕ = r.ref_ptr.1 in
+    let all : MutBor (List X.Denot) = record { ref_ptr = (r.ref_ptr.0, r.ref_ptr.1); ghost_name = r.ghost_name; now = v.items } in
+    let p : ℕ = m * s + o' in
+    let fits : length v.items * s < 2 ^ 63 = rm.1 in
+    let before : m * s ≤ length v.items * s = mul-le-mul_right s (omega arith) in
+    let fs : m * s < 2 ^ 64 = omega arith in
+    let part : (e - m) * s ≤ length v.items * s = mul-le-mul_right s (omega arith) in
+    let fr : e - m < 2 ^ 64 = omega arith in
+    let fits_part : Room (R X Z g d dd) (e - m) = (fr, omega arith) in
+    let lent : List X.Denot = take (e - m) (drop_list m v.items) in
+    let long : length lent ≡ e - m = mid_long 𝓛 κ q b' o' r.ghost_name (R X Z g d dd) v.items m e ordered within p refl fits_part in
+    pure_i ! (mut_slice_at (R X Z g d dd) all (slice_val (b', o') (length v.items) ∷ [])) (tt, (tt, tt)) (refl, rm) $ fjoin ! $
+    -- [the slice; what the Vec follows; the tokens]
+    lands_as ! (ap only is) refl (tt, (tt, (record { fits = rm.0 }, tt))) $
+    sets ! (is_now ! (bin ! (get ! refl) (size_word !) (record { fits = subst (λ (k : ℕ). k < 2 ^ 64) (sym (uncapped m s fs)) fs }))
+    (ap (vint w64) (uncapped m s fs))) refl (tt, record { fits = fs }) $
+    sets ! (bin ! (get_in ! (fld ! refl (stop !)) (sub ! 0 refl (whole !))) (get ! refl) tt) refl (tt, tt) $
+    sets ! (bin ! (get ! refl) (get ! refl) ordered) refl (tt, record { fits = fr }) $
+    sets ! (addr ! (through ! refl (stop !))) refl (tt, tt) $
+    sets ! (agg ! (and_then ! (get ! refl) (and_then ! (get ! refl) (no_more !)))) refl (tt, (tt, (record { fits = fr }, tt))) $
+    move ! (2 ∷ []) $ split ! $ move ! (2 ∷ 0 ∷ []) $
+    use2 𝓛 (later (some (part_lent 𝓛 κ q b' o' r.ghost_name (R X Z g d dd) v.items m e ordered within p refl fits_part)))
+    (lends_part 𝓛 κ q b' o' r.ghost_name (R X Z g d dd) v.items m e ordered within p refl fits_part (mut_slice_vals all)) $ await ! tt $ pick !
+    (λ δ. split3 ! $
+    move ! (4 ∷ 2 ∷ []) $
+    use2 𝓛 (‵ (follows (V X Z g d dd) (Array (R X Z g d dd) 0) γ δ (λ left. with_items v (part_left v.items m e left))))
+    (follows_then 𝓛 (V X Z g d dd) (Array (R X Z g d dd) 0) (Array (R X Z g d dd) 0) (with_items v) (part_left v.items m e) γ r.ghost_name δ) $
+    returns ! (look_at ! 0 refl) $ free_all ! refl $ keep ! (1 ∷ 2 ∷ 0 ∷ 3 ∷ []) $
+    rewrite ! 0 (λ (j : ℕ). ‵ ((MutSlice (named 0) κ (R X Z g d dd)).own_val (record { ref_ptr = (b', p); ghost_name = δ; now = lent })
+    (slice_val (b', p) j ∷ []))) long refl $
+    suffices ! _ (ends_at 𝓛 T hs c bound (slice_val (b', p) (e - m))
+    (record { ref_ptr = (b', p); ghost_name = δ; now = lent }) (tt, (tt, (tt, tt))) (tt, (tt, (tt, tt)))) $
+    nothing ! $ nothing ! $ fjoin ! $ nothing ! $ fjoin ! $ nothing ! $ fjoin ! $ join ! $ move ! (1 ∷ 3 ∷ []) $ join ! $ join ! $ frame ! $ says ! refl $
+    done !)))))))))))))
