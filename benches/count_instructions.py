@@ -137,6 +137,7 @@ SCENES = {
     "flat_squares": lambda: to_the_end(squares(256, 8, False), "pixel", 8 * 256 * 256),
     "small_pictures": lambda: to_the_end(small_pictures(1024, 10), "draw and tile", 10 * 32 * 32),
     "cleared": lambda: clear_of_what_was_drawn(512),
+    "clears": lambda: to_the_end(scenes.clears(2048, 2048, 40), "clear and tile", 40 * 64 * 64),
     "small": lambda: to_the_end(scenes.small(512, 512, 4000, True).capture(25), "triangle", 4000),
     "small_far_apart": lambda: to_the_end(scenes.small(2048, 2048, 32000, True).capture(8), "triangle", 32000),
     "largest_target": lambda: to_the_end(scenes.small(16384, 16384, 16384, True).capture(), "draw", 16384),

@@ -58,7 +58,8 @@ impl Planned {
     }
 }
 
-/// What an event writes at most on a tile, and of a draw the first triangles that it draws there. From number `rest` on none is kept.
+/// What an event writes at most on a tile, and of a draw the first triangles that it draws there. From number `rest` on none is kept. It is large, so it is
+/// filled where it stands.
 #[derive(Drop)]
 pub struct Plan {
     pub demand: Demand,
@@ -67,33 +68,62 @@ pub struct Plan {
 }
 
 impl Plan {
-    /// What an event writes at most in a state on a tile of this place. Of its triangles none before this one covers a pixel of the place.
-    pub fn of(event: &Event, state: &Pipeline, place: Place, first: u32) -> Plan
-        requires placed { IsTilePlace place }
-        requires first { MayBeginAt event.now place first }
-        ensures spans { result.demand.spans ≡ event_spans event.now state.now place }
-        ensures pixels { result.demand.pixels ≡ event_pixels event.now state.now place }
-        ensures planned { IsPlan result event.now state.now place }
+    /// A plan of nothing.
+    pub fn empty() -> Plan
+        ensures spans { result.demand.spans ≡ 0 }
+        ensures pixels { result.demand.pixels ≡ 0 }
+        ensures planned { result.planned.items ≡ [] }
+        ensures rest { result.rest ≡ 0 }
     {
-        match event {
-            Event::Clear(_) => plan_clear(place),
-            Event::DepthClear(_) => plan_clear(place),
-            Event::Draw(draw) => plan_draw(draw, state, place, first),
-            // State events and markers write nothing.
-            _ => Plan::without_triangles(NOTHING, 0),
+        Plan {
+            demand: NOTHING,
+            planned: ArrayVec::new(),
+            rest: 0,
         }
     }
 
-    /// Of so much, and of no triangle before number `rest`.
-    fn without_triangles(demand: Demand, rest: u32) -> Plan
-        ensures demand { result.demand ≡ demand }
-        ensures planned { result.planned.items ≡ [] }
-        ensures rest { result.rest ≡ rest }
+    /// Makes it what an event writes at most in a state on a tile of this place. Of its triangles none before this one covers a pixel of the place.
+    pub fn fill(&mut self, event: &Event, state: &Pipeline, place: Place, first: u32)
+        requires placed { IsTilePlace place }
+        requires first { MayBeginAt event.now place first }
+        ensures spans { self.new.demand.spans ≡ event_spans event.now state.now place }
+        ensures pixels { self.new.demand.pixels ≡ event_pixels event.now state.now place }
+        ensures planned { IsPlan self.new event.now state.now place }
     {
-        Plan {
-            demand,
-            planned: ArrayVec::new(),
-            rest,
+        self.demand = NOTHING;
+        self.planned.clear();
+        self.rest = 0;
+        match event {
+            Event::Clear(_) => self.demand = demand_of_all(place),
+            Event::DepthClear(_) => self.demand = demand_of_all(place),
+            Event::Draw(draw) => self.add_draw(draw, state, place, first),
+            // State events and markers write nothing.
+            _ => {}
+        }
+    }
+
+    /// Makes a plan of nothing that of a draw, of whose triangles none before this one covers a pixel of the place.
+    fn add_draw(&mut self, draw: &Draw, state: &Pipeline, place: Place, first: u32)
+        requires no_spans { self.old.demand.spans ≡ 0 }
+        requires no_pixels { self.old.demand.pixels ≡ 0 }
+        requires none { self.old.planned.items ≡ [] }
+        requires placed { IsTilePlace place }
+        requires within { first ≤ length (triangles_of draw.now) }
+        requires missed { CoverNone (box_of_place place) (triangles_of draw.now) 0 first }
+        ensures spans { self.new.demand.spans ≡ sum_by (triangle_spans state.now place) (triangles_of draw.now) }
+        ensures pixels { self.new.demand.pixels ≡ sum_by (triangle_pixels state.now place) (triangles_of draw.now) }
+        ensures planned { ArePlanned draw.now state.now place 0 self.new.planned.items self.new.rest }
+    {
+        let window = window_of(draw, state, place);
+        let tested = is_tested(draw, state);
+        self.rest = draw.triangles();
+        if is_idle(draw, &state.raster, window) {
+            return;
+        }
+        let mut from = first;
+        while let Some(next) = Planned::next(draw, from, state, window) {
+            from = draw.next_listed(next.triangle + 1, window);
+            self.add(next, tested);
         }
     }
 
@@ -205,41 +235,16 @@ fn is_shut(depth: &Depth) -> bool
     depth.enable && matches!(depth.func, Func::Never)
 }
 
-/// The plan of a draw, of whose triangles none before this one covers a pixel of the place.
-fn plan_draw(draw: &Draw, state: &Pipeline, place: Place, first: u32) -> Plan
-    requires placed { IsTilePlace place }
-    requires within { first ≤ length (triangles_of draw.now) }
-    requires missed { CoverNone (box_of_place place) (triangles_of draw.now) 0 first }
-    ensures spans { result.demand.spans ≡ sum_by (triangle_spans state.now place) (triangles_of draw.now) }
-    ensures pixels { result.demand.pixels ≡ sum_by (triangle_pixels state.now place) (triangles_of draw.now) }
-    ensures planned { ArePlanned draw.now state.now place 0 result.planned.items result.rest }
-{
-    let count = draw.triangles();
-    let window = window_of(draw, state, place);
-    let mut plan = Plan::without_triangles(NOTHING, count);
-    let tested = is_tested(draw, state);
-    if is_idle(draw, &state.raster, window) {
-        return plan;
-    }
-    let mut from = first;
-    while let Some(next) = Planned::next(draw, from, state, window) {
-        from = draw.next_listed(next.triangle + 1, window);
-        plan.add(next, tested);
-    }
-    plan
-}
-
-/// The plan of a clear: all pixels, by rows.
-fn plan_clear(place: Place) -> Plan
+/// What a clear writes: all pixels, by rows.
+fn demand_of_all(place: Place) -> Demand
     requires { IsTilePlace place }
-    ensures spans { result.demand.spans ≡ spans_in (λ x y. true) place }
-    ensures pixels { result.demand.pixels ≡ pixels_in (λ x y. true) place }
+    ensures spans { result.spans ≡ spans_in (λ x y. true) place }
+    ensures pixels { result.pixels ≡ pixels_in (λ x y. true) place }
 {
-    let demand = Demand {
+    Demand {
         spans: place.height as usize,
         pixels: place.width as usize * place.height as usize,
-    };
-    Plan::without_triangles(demand, 0)
+    }
 }
 
 /// The box of a tile's pixels that the scissor leaves.

@@ -47,7 +47,6 @@ impl<'a> Next<'a> {
     }
 
     /// Draws it on a tile, and keeps what it overwrites in a frame more. A refusal changes no pixel.
-    #[inline(never)]
     pub(crate) fn draw(&self, tile: &mut Tile, undo: &mut UndoStack) -> Result<(), Full>
         requires { MayBeginAt self.now.event.now tile.old.place self.now.first }
         ensures drawn { OnOk result (IsPast self.now.event.now self.now.state.now tile.old undo.old tile.new undo.new) }
@@ -59,7 +58,21 @@ impl<'a> Next<'a> {
         if fd_draw::clear_alike(self.event, tile, undo)? {
             return Ok(());
         }
-        let plan = Plan::of(self.event, self.state, tile.place(), self.first);
+        self.draw_planned(tile, undo)
+    }
+
+    /// The same by a plan, which is large: a clear of what is alike doesn't pay for its room.
+    #[inline(never)]
+    fn draw_planned(&self, tile: &mut Tile, undo: &mut UndoStack) -> Result<(), Full>
+        requires { MayBeginAt self.now.event.now tile.old.place self.now.first }
+        ensures drawn { OnOk result (IsPast self.now.event.now self.now.state.now tile.old undo.old tile.new undo.new) }
+        ensures same { OnErr result (IsSame tile.old undo.old tile.new undo.new) }
+        ensures free { event_spans self.now.event.now self.now.state.now tile.old.place ≡ 0
+            → event_pixels self.now.event.now self.now.state.now tile.old.place ≡ 0 → length undo.old.frames + 1 < 2 ^ 64 → IsOk result }
+        ensures wanted { OnErr result (length undo.old.frames < 4294967295 → Wanted) }
+    {
+        let mut plan = Plan::empty();
+        plan.fill(self.event, self.state, tile.place(), self.first);
         make_room(plan.demand, tile, undo)?;
         undo.begin();
         // of many small draws most write nothing on a tile

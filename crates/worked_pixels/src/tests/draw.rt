@@ -108,7 +108,8 @@ fn draw_with_room(canvas: &mut Canvas, event: &Event, state: &Pipeline) -> Resul
         return Err(Fail::from("no made tile"));
     }
     let first = first_listed(event, place).ok_or("listed")?;
-    let plan = Plan::of(event, state, place, first);
+    let mut plan = Plan::empty();
+    plan.fill(event, state, place, first);
     canvas.undo.reserve(plan.demand.spans, plan.demand.pixels)?;
     canvas.undo.begin();
     draw(event, state, &plan, &mut canvas.tile, &mut canvas.undo);
@@ -470,7 +471,8 @@ fn a_triangle_beside_the_tile_asks_for_nothing(rt: HostRuntime) -> Result<(), Fa
     };
     let event = triangles(rt.alloc(), &[([(0, 0), (32, 0), (0, 32)], grey(3), 0)])?;
     let first = first_listed(&event, place).ok_or("listed")?;
-    let plan = Plan::of(&event, &Pipeline::default(), place, first);
+    let mut plan = Plan::empty();
+    plan.fill(&event, &Pipeline::default(), place, first);
     assert_eq!(rt; (plan.demand.spans, plan.demand.pixels), (0, 0));
     Ok(())
 }
@@ -556,7 +558,8 @@ fn a_picture_elsewhere_asks_for_nothing(rt: HostRuntime) -> Result<(), Fail> {
     assert!(rt; draws_nothing(&event, &state, place));
     assert!(rt; !draws_nothing(&event, &state, FOUR));
     let first = first_listed(&event, place).ok_or("listed")?;
-    let plan = Plan::of(&event, &state, place, first);
+    let mut plan = Plan::empty();
+    plan.fill(&event, &state, place, first);
     assert_eq!(rt; (plan.demand.spans, plan.demand.pixels), (0, 0));
     Ok(())
 }

@@ -1,12 +1,11 @@
 use Rattle.std.proofs.Common.{◌≡◌, ◌+◌, ◌∙◌, cond, inl, inr, length, min, sym, ap, arith}
 use Rattle.fd_events.specs.Draw.{triangles_of}
-use Rattle.fd_draw.specs.declared.demand.Demand.{Demand}
 use Rattle.fd_draw.specs.Demand.{is_tested, triangle_pixels, triangle_spans}
 use Rattle.fd_draw.specs.Plan.{AreUnreached}
 use Rattle.fd_draw.specs.Triangles.{triangle_at}
 use Rattle.fd_draw.proofs.Triangles.{no_pixels, no_spans, picture_at_number, pixels-passed, pixels_found, planned_more, planned_passed}
 use Rattle.fd_draw.proofs.Triangles.{spans-passed, spans_few, spans_found, sum_more, unreached_closed, unreached_culled, unreached_missed, unreached_uncovered}
-use Rattle.fd_draw.proofs.plan.plan_draw.Goals as goal
+use Rattle.fd_draw.proofs.plan.Plan.add_draw.Goals as goal
 
 -- the scissor leaves nothing, or every triangle is culled
 idle : (c : goal.Then-is_idle) → AreUnreached (triangles_of c.args.draw.now) c.args.state.now c.args.place 0 (length (triangles_of c.args.draw.now))
@@ -16,17 +15,15 @@ idle c = elim (c.is_idle.ensures c.if-is_idle.true) [
 ]
 
 pub returns-then-is_idle-clause-spans : goal.returns-then-is_idle-clause-spans
-returns-then-is_idle-clause-spans c = ap (λ (d : Demand). d.spans) c.without_triangles-plan.ensures.demand
+returns-then-is_idle-clause-spans c = c.requires.no_spans
     ∙ sym (no_spans (triangles_of c.args.draw.now) c.args.state.now c.args.place 0 (omega arith) (idle c))
 
 pub returns-then-is_idle-clause-pixels : goal.returns-then-is_idle-clause-pixels
-returns-then-is_idle-clause-pixels c = ap (λ (d : Demand). d.pixels) c.without_triangles-plan.ensures.demand
+returns-then-is_idle-clause-pixels c = c.requires.no_pixels
     ∙ sym (no_pixels (triangles_of c.args.draw.now) c.args.state.now c.args.place 0 (omega arith) (idle c))
 
 pub returns-then-is_idle-clause-planned : goal.returns-then-is_idle-clause-planned
-returns-then-is_idle-clause-planned c =
-    let plan = c.without_triangles-plan.ensures in
-    rw (plan.planned, plan.rest, c.triangles-count.ensures.value) (omega arith, omega arith, idle c)
+returns-then-is_idle-clause-planned c = rw (c.requires.none, c.triangles-self.ensures.value) (omega arith, omega arith, idle c)
 
 pub loop-next-init : goal.loop-next-init
 loop-next-init c =
@@ -34,20 +31,19 @@ loop-next-init c =
     let s = c.args.state.now in
     let p = c.args.place in
     let first = c.args.first in
-    let plan = c.without_triangles-plan in
     let none = unreached_uncovered ts s p first c.requires.missed in
-    let start : min plan.result.rest first ≡ first = omega (arith, plan.ensures.rest, c.triangles-count.ensures.value, c.requires.within) in
+    let start : min c.triangles-self.result first ≡ first = omega (arith, c.triangles-self.ensures.value, c.requires.within) in
     record {
-      spans = omega (arith, ap (λ (e : Demand). e.spans) plan.ensures.demand, spans-passed ts s p 0 first (omega arith) none);
-      pixels = omega (arith, ap (λ (e : Demand). e.pixels) plan.ensures.demand, pixels-passed ts s p 0 first (omega arith) none);
+      spans = omega (arith, c.requires.no_spans, spans-passed ts s p 0 first (omega arith) none);
+      pixels = omega (arith, c.requires.no_pixels, pixels-passed ts s p 0 first (omega arith) none);
       within = c.requires.within;
-      few_spans = omega (arith, ap (λ (e : Demand). e.spans) plan.ensures.demand);
-      few_pixels = omega (arith, ap (λ (e : Demand). e.pixels) plan.ensures.demand);
+      few_spans = omega (arith, c.requires.no_spans);
+      few_pixels = omega (arith, c.requires.no_pixels);
       kept = record {
-        planned = rw (start, plan.ensures.planned) (omega arith, c.requires.within, none);
-        last = omega (arith, plan.ensures.rest, c.triangles-count.ensures.value);
-        room = λ _. omega (arith, plan.ensures.rest, c.triangles-count.ensures.value);
-        few = omega (arith, ap length plan.ensures.planned);
+        planned = rw (start, c.requires.none) (omega arith, c.requires.within, none);
+        last = omega (arith, c.triangles-self.ensures.value);
+        room = λ _. omega (arith, c.triangles-self.ensures.value);
+        few = omega (arith, ap length c.requires.none);
       };
     }
 
@@ -101,5 +97,5 @@ returns-clause-planned c =
     let count = length (triangles_of c.args.draw.now) in
     let none = c.in_default.ensures.none c.args.place c.window_of-window.ensures.inside c.window_of-window.ensures.window in
     let kept = planned_passed inv.kept count inv.within (omega arith) none in
-    let all : min c.loop-next.plan.rest count ≡ c.loop-next.plan.rest = omega (arith, kept.last) in
+    let all : min c.loop-next.self.rest count ≡ c.loop-next.self.rest = omega (arith, kept.last) in
     rw all at kept.planned
