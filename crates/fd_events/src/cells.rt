@@ -71,6 +71,18 @@ pub(crate) fn first_from(numbers: &[u32], number: u32, end: u32) -> u32
     }
 }
 
+/// The box of a target of this size.
+pub(crate) fn target_box(width: u32, height: u32) -> Bounds
+    ensures { result ≡ record { left = 0; top = 0; right = width; bottom = height } }
+{
+    Bounds {
+        left: 0,
+        top: 0,
+        right: width,
+        bottom: height,
+    }
+}
+
 impl CellGrid {
     /// The finest grid over a box that has more than one cell and not too many, of which the triangles reach not too many.
     fn over(bounds: Bounds, list: &TriangleList, boxes: &[Bounds]) -> Option<CellGrid>
@@ -98,12 +110,7 @@ impl CellGrid {
     pub(crate) fn on_target(width: u32, height: u32, most: usize) -> CellGrid
         ensures { IsCellGrid result }
     {
-        let bounds = Bounds {
-            left: 0,
-            top: 0,
-            right: width,
-            bottom: height,
-        };
+        let bounds = target_box(width, height);
         for shift in LEAST_SHIFT..GREATEST_SHIFT {
             let area = cells_under(bounds, shift);
             if area.count() <= most {
@@ -287,7 +294,7 @@ impl CellGrid {
 impl Cells {
     /// The cells of a grid over a box, with the numbers of the triangles that may reach each. None where they are few, or all in a cell,
     /// or reach too many cells.
-    fn over(
+    pub(crate) fn over(
         bounds: Bounds,
         list: &TriangleList,
         boxes: &[Bounds],
@@ -310,30 +317,6 @@ impl Cells {
             Some(lists) => Ok(Some(Cells { grid, lists })),
             None => Ok(None),
         }
-    }
-
-    /// Such cells over the part of a box that lies on a target of this size.
-    pub(crate) fn on_target(
-        bounds: Bounds,
-        width: u32,
-        height: u32,
-        list: &TriangleList,
-        boxes: &[Bounds],
-        alloc: Global,
-    ) -> Result<Option<Cells>, AllocError>
-        requires few { length boxes.now ≤ most_triangles }
-        requires all { length boxes.now ≡ length (triangles_of list.now) }
-        requires boxes { AreTriangleBoxes boxes.now (triangles_of list.now) }
-        ensures cells { IfOk result (λ cells. IfSome cells (λ cells. ListTriangles cells (triangles_of list.now))) }
-        ensures wanted { OnErr result Wanted }
-    {
-        let target = Bounds {
-            left: 0,
-            top: 0,
-            right: width,
-            bottom: height,
-        };
-        Cells::over(bounds.meet(target), list, boxes, alloc)
     }
 
     /// The numbers that the cell lists in which a window lies, where it lies in one.

@@ -48,12 +48,8 @@ impl Event {
             Event::Clear(_) => Reach::whole(width, height),
             Event::DepthClear(_) => Reach::whole(width, height),
             Event::Draw(draw) => Reach::clipped(draw.clip(draw.bounds()), width, height),
-            Event::SetRaster(_)
-            | Event::SetScissor(_)
-            | Event::SetBlend(_)
-            | Event::SetFactor(_)
-            | Event::SetDepth(_)
-            | Event::Marker(_) => Reach::nowhere(),
+            // State events and markers write nothing.
+            _ => Reach::nowhere(),
         }
     }
 
@@ -65,12 +61,8 @@ impl Event {
             Event::Clear(_) => false,
             Event::DepthClear(_) => false,
             Event::Draw(draw) => !draw.bounds().meets(window),
-            Event::SetRaster(_)
-            | Event::SetScissor(_)
-            | Event::SetBlend(_)
-            | Event::SetFactor(_)
-            | Event::SetDepth(_)
-            | Event::Marker(_) => true,
+            // State events and markers write nothing.
+            _ => true,
         }
     }
 

@@ -3,7 +3,7 @@ ghost use Rattle.fd_events.specs.Draw.{triangles_of};
 ghost use Rattle.fd_events.specs.Finder.{Finds};
 ghost use Rattle.fd_memory.specs.Wanting.{Wanted};
 
-use crate::cells::Cells;
+use crate::cells::{Cells, target_box};
 use crate::list::TriangleList;
 use fd_cover::Bounds;
 use std::alloc::{AllocError, Global};
@@ -52,7 +52,8 @@ impl Finder {
             }));
         }
         let boxes = list.boxes(alloc)?;
-        let cells = Cells::on_target(bounds, width, height, list, &boxes, alloc)?;
+        let reached = bounds.meet(target_box(width, height));
+        let cells = Cells::over(reached, list, &boxes, alloc)?;
         Ok(Some(Finder {
             bounds,
             groups,

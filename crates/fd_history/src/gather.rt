@@ -150,12 +150,8 @@ impl Gather {
                 depth_after: *depth,
             }),
             Event::Draw(draw) => self.pass_draw(number, draw, state),
-            Event::SetRaster(_)
-            | Event::SetScissor(_)
-            | Event::SetBlend(_)
-            | Event::SetFactor(_)
-            | Event::SetDepth(_)
-            | Event::Marker(_) => Ok(()),
+            // State events and markers write nothing.
+            _ => Ok(()),
         }
     }
 }

@@ -1,4 +1,4 @@
 use Rattle.fd_events.proofs.finder.Finder.of.Goals as goal
 
-pub on_target-requires-clause-boxes : goal.on_target-requires-clause-boxes
-on_target-requires-clause-boxes c = rw c.deref.ensures.value c.in_ok-boxes.ensures.boxes.0
+pub over-requires-clause-boxes : goal.over-requires-clause-boxes
+over-requires-clause-boxes c = rw c.deref.ensures.value c.in_ok-boxes.ensures.boxes.0
