@@ -1,25 +1,39 @@
+//! Tests of the calls that want memory below a session and a capture. A test says `ready` once all is there that its call needs, and `told`
+//! with what was answered.
 ghost use Rattle.std.specs.Prelude.{◌≡◌, ◌≤◌, length, IfOk};
 ghost use Rattle.fd_owner.specs.History.{position};
 
-use crate::tests::captures::{FRESH, MASKED, PICTURE, TWO_CELLS, TWO_TILES, colour, session};
-use fd_capture::{CaptureFault, read};
+use fd_blend::Colour;
 use fd_crew::{Free, Outcome, run_forward};
 use fd_events::{Event, EventTable, Label, TableFault};
 use fd_owner::{Owner, Refused};
-use fd_pam::{Device, PamFault, header, write};
-use fd_session::Session;
+use fd_pam::header;
 use fd_tile::{Place, Tile};
 use fd_undo::UndoStack;
 use std::alloc::{AllocError, Global};
-use std::io;
-use std::io::{Print, Write};
 use std::process::Abort;
 use std::test::Fail;
 
-/// A clear and a marker.
-fn events(alloc: Global) -> Result<Vec<Event>, Fail> {
+const FRESH: Colour = Colour {
+    r: 0,
+    g: 0,
+    b: 0,
+    a: 0,
+};
+
+const fn colour(r: u8, g: u8, b: u8, a: u8) -> Colour {
+    Colour { r, g, b, a }
+}
+
+fn one_clear(alloc: Global) -> Result<Vec<Event>, Fail> {
     let mut events = Vec::new(alloc);
     events.push(Event::Clear(colour(1, 2, 3, 4)))?;
+    Ok(events)
+}
+
+/// A clear and a marker.
+fn events(alloc: Global) -> Result<Vec<Event>, Fail> {
+    let mut events = one_clear(alloc)?;
     events.push(Event::Marker(Label::new(String::from_str(alloc, "end")?)?))?;
     Ok(events)
 }
@@ -42,46 +56,6 @@ fn table_start(rt: HostRuntime) -> Result<(), Fail> {
         }
     }
     Ok(())
-}
-
-/// Reads a capture of so many events. After a refusal it is read again.
-fn expect_read<R: Print + Abort>(
-    rt: &R,
-    alloc: Global,
-    capture: &str,
-    events: u32,
-) -> Result<(), Fail> {
-    println!(rt; "ready")?;
-    match read(alloc, capture.as_bytes()) {
-        Ok(table) => {
-            println!(rt; "told Ok")?;
-            assert_eq!(rt; table.len(), events);
-        }
-        Err(fault) => {
-            println!(rt; "told {fault:?}")?;
-            assert_eq!(rt; fault, CaptureFault::Memory);
-            let again = read(alloc, capture.as_bytes());
-            assert!(rt; again.is_ok_and(|table| table.len() == events));
-        }
-    }
-    Ok(())
-}
-
-#[test]
-fn capture_read(rt: HostRuntime) -> Result<(), Fail> {
-    expect_read(&rt, rt.alloc(), MASKED, 5)
-}
-
-/// A draw whose triangles are listed in cells.
-#[test]
-fn capture_read_into_cells(rt: HostRuntime) -> Result<(), Fail> {
-    expect_read(&rt, rt.alloc(), TWO_CELLS, 1)
-}
-
-/// A draw with a picture, some of whose texels are holes.
-#[test]
-fn capture_read_with_a_picture(rt: HostRuntime) -> Result<(), Fail> {
-    expect_read(&rt, rt.alloc(), PICTURE, 4)
 }
 
 const PLACE: Place = Place {
@@ -166,6 +140,19 @@ fn undo_push_alike(rt: HostRuntime) -> Result<(), Fail> {
     Ok(())
 }
 
+/// One clear of a target of 33 by 1 pixels, which are two tiles.
+fn two_tiles(alloc: Global) -> Result<EventTable, Fail>
+    ensures { IfOk result (λ table. (table.width ≡ 33) × (table.height ≡ 1) × (length table.events ≡ 1)) }
+{
+    let Ok(table) = EventTable::start(alloc, 3, 33, 1, one_clear(alloc)?) else {
+        return Err(Fail::from("memory"));
+    };
+    if table.len() != 1 || table.width() != 33 || table.height() != 1 {
+        return Err(Fail::from("one event"));
+    }
+    Ok(table)
+}
+
 /// What an owner shows: its position, how much it keeps, and its first pixel's colour.
 fn expect_owner(rt: &impl Abort, owner: &Owner, position: u32, recorded: u64, red: u8) {
     assert_eq!(rt; owner.position(), position);
@@ -197,7 +184,7 @@ fn back(owner: &mut Owner) -> Result<(), Fail> {
 /// An owner whose opening image is no fresh one.
 #[test]
 fn owner_forward(rt: HostRuntime) -> Result<(), Fail> {
-    let table = read(rt.alloc(), TWO_TILES.as_bytes())?;
+    let table = two_tiles(rt.alloc())?;
     let mut tile = Tile::fresh(rt.alloc(), PLACE)?;
     tile.set(0, 0, colour(5, 6, 7, 8));
     let mut owner = Owner::of(rt.alloc(), tile);
@@ -221,7 +208,7 @@ fn owner_forward(rt: HostRuntime) -> Result<(), Fail> {
 /// An owner whose tile isn't made, over a clear: one record of one colour.
 #[test]
 fn owner_forward_on_a_blank_tile(rt: HostRuntime) -> Result<(), Fail> {
-    let table = read(rt.alloc(), TWO_TILES.as_bytes())?;
+    let table = two_tiles(rt.alloc())?;
     let mut owner = Owner::of(rt.alloc(), Tile::blank(rt.alloc(), PLACE));
     println!(rt; "ready")?;
     if step(&mut owner, &table)?.is_ok() {
@@ -254,17 +241,6 @@ fn owner(alloc: Global, left: u32, width: u32) -> Result<Owner, Fail>
     Ok(Owner::of(alloc, Tile::fresh(alloc, place)?))
 }
 
-/// One clear of a target of 33 by 1 pixels, which are two tiles.
-fn two_tiles(alloc: Global) -> Result<EventTable, Fail>
-    ensures { IfOk result (λ table. (table.width ≡ 33) × (table.height ≡ 1) × (length table.events ≡ 1)) }
-{
-    let table = read(alloc, TWO_TILES.as_bytes())?;
-    if table.len() != 1 || table.width() != 33 || table.height() != 1 {
-        return Err(Fail::from("one event"));
-    }
-    Ok(table)
-}
-
 #[test]
 fn crew_run_forward(rt: HostRuntime) -> Result<(), Fail> {
     let table = two_tiles(rt.alloc())?;
@@ -288,23 +264,6 @@ fn crew_run_forward(rt: HostRuntime) -> Result<(), Fail> {
     Ok(())
 }
 
-/// Takes all bytes and counts them.
-#[derive(Drop)]
-struct Counts {
-    taken: u64,
-}
-
-impl Write for Counts {
-    fn write(&mut self, buf: &[u8]) -> io::Result<usize> {
-        self.taken = self.taken.saturating_add(buf.len() as u64);
-        Ok(buf.len())
-    }
-
-    fn flush(&mut self) -> io::Result<()> {
-        Ok(())
-    }
-}
-
 #[test]
 fn pam_header(rt: HostRuntime) -> Result<(), Fail> {
     println!(rt; "ready")?;
@@ -318,29 +277,6 @@ fn pam_header(rt: HostRuntime) -> Result<(), Fail> {
             let again = header(rt.alloc(), 16384, 16384);
             assert!(rt; again.is_ok_and(|text| text.len() == 73));
         }
-    }
-    Ok(())
-}
-
-/// What comes of writing the image of a session, and how many bytes were put.
-fn written(alloc: Global, session: &Session) -> (Result<(), PamFault>, u64) {
-    let mut sink = Device::new(Counts { taken: 0 });
-    let result = write(alloc, &mut sink, session);
-    (result, sink.into_inner().taken)
-}
-
-/// On want of memory no byte is put.
-#[test]
-fn pam_write(rt: HostRuntime) -> Result<(), Fail> {
-    let session = session(rt.alloc(), TWO_TILES, 1)?;
-    println!(rt; "ready")?;
-    let (first, taken) = written(rt.alloc(), &session);
-    println!(rt; "told {first:?}")?;
-    if first.is_ok() {
-        assert_eq!(rt; taken, 198);
-    } else {
-        assert_eq!(rt; (first, taken), (Err(PamFault::Memory), 0));
-        assert_eq!(rt; written(rt.alloc(), &session), (Ok(()), 198));
     }
     Ok(())
 }
