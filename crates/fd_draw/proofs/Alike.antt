@@ -9,7 +9,7 @@ use Rattle.fd_undo.specs.Frame.{KeptPixel, alike}
 use Rattle.fd_undo.specs.Undo.{without_room}
 use Rattle.fd_undo.proofs.FrameLemmas.{older-push, top-push}
 use Rattle.fd_undo.proofs.Pixelwise.{value_in-same, kept_at-alike, Inside-alike}
-use Rattle.fd_draw.specs.declared.clear.Clear.{Clear}
+use Rattle.fd_events.specs.declared.effect.Clear.{Clear}
 use Rattle.fd_draw.specs.Paints.{Paints}
 use Rattle.fd_draw.specs.Written.{as_it_is, cleared, with_cleared}
 use Rattle.fd_draw.specs.Writing.{keep_each}

@@ -3,13 +3,16 @@ use Rattle.std.proofs.Common.{◌≡◌, ℕ, ◌∙◌, List, [], ◌∷◌, le
 use Rattle.std.proofs.lemmas.Nat.{row_fits}
 use Rattle.fd_cover.specs.declared.depth.Func.TheVariants.{Never}
 use Rattle.fd_cover.specs.declared.shading.Interp.{Interp}
+use Rattle.fd_events.specs.declared.effect.Clear.{Clear}
+use Rattle.fd_events.specs.declared.effect.Clear.TheVariants.{Colours, Depths}
 use Rattle.fd_events.specs.declared.event.Event.TheVariants.{Draw}
+use Rattle.fd_events.specs.Effect.{event_of_clear}
 use Rattle.fd_events.specs.declared.pipeline.Pipeline.{Pipeline}
 use Rattle.fd_events.specs.Draw.{DrawList, Triangle, triangles_of}
 use Rattle.fd_events.specs.Image.{Pixel, is_drawn, pixel_after_triangles, kept_by_triangles}
 use Rattle.fd_tile.specs.declared.place.Place.{Place}
 use Rattle.fd_tile.specs.Place.{IsTilePlace}
-use Rattle.fd_draw.specs.Demand.{pixels_in}
+use Rattle.fd_draw.specs.Demand.{event_pixels, pixels_in}
 use Rattle.fd_draw.specs.Plan.{AreUnreached, WritesNothing}
 use Rattle.fd_draw.proofs.Areas.{drawn_reached}
 use Rattle.fd_draw.proofs.Counts.{pixels_in-all}
@@ -36,7 +39,11 @@ pub nothing_passes : (d : DrawList) (s : Pipeline) (p : Place) → s.depth.enabl
 nothing_passes d s p enabled never x y before held = none_drawn d.interp s enabled never x y (triangles_of d) before
 
 -- a clear is none of them, as a place has a pixel
-pub clear_writes : (p : Place) → IsTilePlace p → pixels_in (λ _ _. true) p ≡ 0 → ⊥
-clear_writes p placed none =
+pub clear_writes : (clear : Clear) (s : Pipeline) (p : Place) → IsTilePlace p → event_pixels (event_of_clear clear) s p ≡ 0 → ⊥
+clear_writes clear s p placed none =
     let row = row_fits 0 p.height p.width p.height placed.wide (omega arith) in
-    omega (arith, none, pixels_in-all p, row, placed.high)
+    omega (arith, all clear, none, pixels_in-all p, row, placed.high)
+  where
+    all : (clear : Clear) → event_pixels (event_of_clear clear) s p ≡ pixels_in (λ _ _. true) p
+    all (Colours colour) = refl
+    all (Depths depth) = refl

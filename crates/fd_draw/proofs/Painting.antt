@@ -122,7 +122,7 @@ module _ (written covered : ℕ → ℕ → Bool) (paint : ℕ → ℕ → Pixel
 
 -- ---- a span that is kept
 
-module _ {run : Run} {t : TileImage} (is : HasRun run t) (old : List Pixel) (long : length old ≡ run.right - run.left)
+module _ {run : Run} {t : TileImage} (is : HasRun run t.place) (filled : IsTileImage t) (old : List Pixel) (long : length old ≡ run.right - run.left)
     (was : EachColumn run (λ x. get_or old (x - run.left) fresh_pixel ≡ pixel_of t x run.y)) where
   -- what is kept of it
   abbrev kept : List KeptPixel
@@ -141,7 +141,7 @@ module _ {run : Run} {t : TileImage} (is : HasRun run t) (old : List Pixel) (lon
   Paints-span {u} begun = record {
     placed = refl;
     made = refl;
-    filled = is.filled;
+    filled = filled;
     below = older-push (older u.frames) (top u.frames ++ kept);
     begun = begun;
     opening = refl;
@@ -167,35 +167,39 @@ abbrev pub part : {X : Type 0} → Run → Place → List X → List X
 part run p row = take (run.right - p.left - (run.left - p.left)) (drop (run.left - p.left) row)
 
 -- p is the place as it was read, and the rows are those as they were read
-module _ {run : Run} {t : TileImage} {p : Place} (read : p ≡ t.place) (is : HasRun run t) where
-  read_left : p.left ≡ t.place.left
+module _ {run : Run} {place p : Place} (read : p ≡ place) (is : HasRun run place) where
+  read_left : p.left ≡ place.left
   read_left = ap (λ (q : Place). q.left) read
 
-  pub part_len : {X : Type 0} (row : List X) → length row ≡ t.place.width → length (part run p row) ≡ run.right - run.left
+  pub part_len : {X : Type 0} (row : List X) → length row ≡ place.width → length (part run p row) ≡ run.right - run.left
   part_len row wide =
       let left = read_left in
       simp (length-take, length-drop) (omega arith)
 
   pub part_at : {X : Type 0} (row : List X) (d : X) (x : ℕ) → run.left ≤ x → x < run.right
-      → get_or (part run p row) (x - run.left) d ≡ get_or row (x - t.place.left) d
+      → get_or (part run p row) (x - run.left) d ≡ get_or row (x - place.left) d
   part_at row d x low high = grind (arith, read_left, get_or-take, get_or-drop)
 
+module _ {run : Run} {t : TileImage} {p : Place} (read : p ≡ t.place) (is : HasRun run t.place) (filled : IsTileImage t) where
   wide_row : length (row_of t run.y) ≡ t.place.width
-  wide_row = length-row_in t.place t.rows run.y is.filled.colours is.crossed
+  wide_row = length-row_in t.place t.rows run.y filled.colours is.crossed
 
   wide_depths : length (depth_row_of t run.y) ≡ t.place.width
-  wide_depths = length-row_in t.place t.depths run.y is.filled.depths is.crossed
+  wide_depths = length-row_in t.place t.depths run.y filled.depths is.crossed
 
   abbrev old_pixels : List Pixel
   old_pixels = zip (part run p (row_of t run.y)) (part run p (depth_row_of t run.y))
 
   old_long : length old_pixels ≡ run.right - run.left
-  old_long = grind (arith, part_len, wide_row, wide_depths, length-zip_equal)
+  old_long =
+      let long = part_len read is (row_of t run.y) wide_row in
+      let deep = part_len read is (depth_row_of t run.y) wide_depths in
+      length-zip_equal _ _ (deep ∙ sym long) ∙ long
 
   old_was : EachColumn run (λ x. get_or old_pixels (x - run.left) fresh_pixel ≡ pixel_of t x run.y)
-  old_was x low high = grind (arith, part_len, wide_row, wide_depths, get_or-zip, part_at)
+  old_was x low high = grind (arith, part_len read is, wide_row, wide_depths, get_or-zip, part_at read is)
 
   pub Paints-kept : {u : Undo} {row : List Colour} {deep : List ℕ} {u'' : Undo} → u.frame_left ≡ false → row ≡ row_of t run.y → deep ≡ depth_row_of t run.y
       → u'' ≡ with_kept u (kept_row run.left run.y (zip (part run p row) (part run p deep)))
       → PaintsIn (in_run run) as_it_is keep_each t u t u''
-  Paints-kept begun same same_deep is_kept = rw (is_kept, same, same_deep) (Paints-span is old_pixels old_long old_was begun)
+  Paints-kept begun same same_deep is_kept = rw (is_kept, same, same_deep) (Paints-span is filled old_pixels old_long old_was begun)

@@ -29,8 +29,8 @@ use Rattle.fd_tile.specs.declared.place.Place.{Place}
 use Rattle.fd_events.specs.Picture.{Painting, is_on}
 use Rattle.fd_draw.specs.Demand.{is_reached, is_tested, pixels_in}
 use Rattle.fd_draw.proofs.Counts.{pixels_in-row, written_in_row-span}
-use Rattle.fd_draw.specs.declared.clear.Clear.{Clear}
-use Rattle.fd_draw.specs.declared.clear.Clear.TheVariants.{Colours, Depths}
+use Rattle.fd_events.specs.declared.effect.Clear.{Clear}
+use Rattle.fd_events.specs.declared.effect.Clear.TheVariants.{Colours, Depths}
 use Rattle.fd_draw.specs.Written.{as_it_is, cleared, with_cleared}
 use Rattle.fd_tile.proofs.Cut.{FillsPlace-flat}
 use Rattle.fd_undo.proofs.Pixelwise.{value_in-flat}
@@ -70,9 +70,10 @@ Paints-failed p run {t} filled begun failed = Paints-same
 pair_first : (b : Bool) (p : Pixel) (c e : Colour) → c ≡ cond b e p.0 → (c, p.1) ≡ cond b (e, p.1) p
 pair_first b p c e is = grind arith
 
-module _ {run : Run} {k : ℕ} {t : TileImage} (is : HasRun run t) (count : k ≡ run.right - run.left) (values : List Colour) (size : length values ≡ k) where
+module _ {run : Run} {k : ℕ} {t : TileImage} (is : HasRun run t.place) (filled : IsTileImage t) (count : k ≡ run.right - run.left)
+    (values : List Colour) (size : length values ≡ k) where
   wide : length (row_of t run.y) ≡ t.place.width
-  wide = length-row_of t run.y is.filled is.crossed
+  wide = length-row_of t run.y filled is.crossed
 
   abbrev put_row : List Colour
   put_row = put_mid (run.left - t.place.left) k (row_of t run.y) values
@@ -96,13 +97,13 @@ module _ {run : Run} {k : ℕ} {t : TileImage} (is : HasRun run t) (count : k �
   value_put c r held (inl same) = grind (arith, eq-eqb, row_in-same, put_at)
 
 -- as the code goes
-pub Blends-code : {t : TileImage} {run : Run} (change : ℕ → ℕ → Colour → Colour) {p : Place} {lent new : List Colour} → HasRun run t
+pub Blends-code : {t : TileImage} {run : Run} (change : ℕ → ℕ → Colour → Colour) {p : Place} {lent new : List Colour} → HasRun run t.place → IsTileImage t
     → p ≡ t.place → lent ≡ row_of t run.y → new ≡ changed_row (λ column before. change column run.y before) run.left (part run p lent)
     → ChangesRun (λ c r before. (change c r before.0, before.1)) run t
     (with_row_left t run.y (put_mid (run.left - p.left) (run.right - p.left - (run.left - p.left)) lent new))
-Blends-code {t} {run} change is read is_lent is_new =
+Blends-code {t} {run} change is filled read is_lent is_new =
     let old : List Colour = part run t.place (row_of t run.y) in
-    let long : length old ≡ run.right - run.left = part_len refl is (row_of t run.y) (length-row_of t run.y is.filled is.crossed) in
+    let long : length old ≡ run.right - run.left = part_len refl is (row_of t run.y) (length-row_of t run.y filled is.crossed) in
     let values : List Colour = changed_row (λ column before. change column run.y before) run.left old in
     let given : (c r : ℕ) → in_run run c r ≡ true → get_or values (c - run.left) fresh ≡ change c r (colour_in t c r) =
     λ c r here. let at = run_columns run c r here in
@@ -111,12 +112,14 @@ Blends-code {t} {run} change is read is_lent is_new =
     ∙ rw (column, part_at refl is (row_of t run.y) fresh c at.0 at.1) refl) in
     let count : run.right - t.place.left - (run.left - t.place.left) ≡ run.right - run.left = omega (arith, is.from_left, is.some) in
     let size = length-changed_row (λ column before. change column run.y before) run.left old ∙ long ∙ sym count in
-    rw (is_new, is_lent, read, with_row_left_is t run.y is.filled is.crossed (put_row is count values size) (put_size is count values size)) (record {
-      placed = refl;
-      made = refl;
-      filled = IsTileImage-with_row t run.y is.filled is.crossed (put_row is count values size) (put_size is count values size);
+    let put : List Colour = put_row is filled count values size in
+    let put_long = put_size is filled count values size in
+    rw (is_new, is_lent, read, with_row_left_is t run.y filled is.crossed put put_long) (record {
+      placed = refl {a = t.place};
+      made = refl {a = t.made};
+      filled = IsTileImage-with_row t run.y filled is.crossed put put_long;
       pixels = λ c r held. pair_first (in_run run c r) (pixel_of t c r) _ (change c r (colour_in t c r))
-          (value_put is count values size c r held (cases_eq r run.y) ∙ cond_at (in_run run c r) _ _ _ (given c r));
+          (value_put is filled count values size c r held (cases_eq r run.y) ∙ cond_at (in_run run c r) _ _ _ (given c r));
     })
 
 -- ---- which pixels of a row pass
@@ -155,7 +158,7 @@ IsFrontDrawn p run done = PaintsIn (in_run (front run done)) (painted_by p) (kep
 
 module _ (p : Primitive) (run : Run) (done count : ℕ) {t t' : TileImage} {u u' : Undo} (painted : IsFrontDrawn p run done t u t' u') where
   -- behind them the depths are as they were, and some in turn are drawn or not as the first of them
-  module _ (passed : ℕ) (is : HasRun run t) (within : done + count ≤ run.right - run.left)
+  module _ (passed : ℕ) (is : HasRun run t.place) (within : done + count ≤ run.right - run.left)
       (tests : EachColumn run (λ x. has_bit passed (x - run.left) ≡ is_drawn (triangle_of p) p.state x run.y (depth_in t x run.y)))
       (alike : (k : ℕ) → k < count → has_bit (passed / 2 ^ done) k ≡ has_bit (passed / 2 ^ done) 0) where
     as_before : EachColumn (behind run done count) (λ x. pixel_of t' x run.y ≡ pixel_of t x run.y)
@@ -238,7 +241,7 @@ Paints-shallow p run {t} drawn off = Paints-same
 -- ---- pixels that are kept
 
 -- all were, and get a clear's colour or depth
-pub Paints-filled : (clear : Clear) {t : TileImage} {u u' : Undo} → PaintsIn (λ _ _. true) as_it_is keep_each t u t u'
-    → Paints (λ _ _. cleared clear) keep_each t u (with_cleared clear t) u'
-Paints-filled (Colours colour) {t} kept = grind (arith, FillsPlace-flat, value_in-flat)
-Paints-filled (Depths depth) {t} kept = grind (arith, FillsPlace-flat, value_in-flat)
+pub Paints-filled : (clear : Clear) {t t' : TileImage} {u u' : Undo} → PaintsIn (λ _ _. true) as_it_is keep_each t u t' u'
+    → Paints (λ _ _. cleared clear) keep_each t u (with_cleared clear t') u'
+Paints-filled (Colours colour) kept = grind (arith, FillsPlace-flat, value_in-flat)
+Paints-filled (Depths depth) kept = grind (arith, FillsPlace-flat, value_in-flat)

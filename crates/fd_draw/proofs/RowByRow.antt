@@ -3,14 +3,16 @@ use Rattle.std.proofs.Common.{◌≡◌, ℕ, ◌+◌, ◌-◌, ◌<◌, ◌≤�
 use Rattle.fd_cover.specs.declared.bounds.Bounds.{Bounds}
 use Rattle.fd_tile.specs.declared.place.Place.{Place}
 use Rattle.fd_tile.specs.Place.{HasRow}
-use Rattle.fd_tile.specs.Tile.{Pixel, TileImage, IsTileImage}
+use Rattle.fd_tile.specs.Tile.{Pixel}
 use Rattle.fd_undo.specs.Undo.{Undo}
+use Rattle.fd_draw.specs.declared.canvas.Canvas.{Canvas}
 use Rattle.fd_draw.specs.Area.{LiesIn, IsWrittenIn}
 use Rattle.fd_draw.specs.Demand.{total, written_in_row, row_spans, pixels_in, region_spans}
 use Rattle.fd_draw.specs.Span.{IsRowSpan}
 use Rattle.fd_draw.specs.declared.run.Run.{Run}
 use Rattle.fd_draw.specs.Run.{ends_of, run_spans}
-use Rattle.fd_draw.specs.Writing.{HasRoom, WritesRegion, WritesRun, in_row}
+use Rattle.fd_draw.specs.Writing.{HasRoom, IsLentAs, WritesRegion, WritesRun, in_row, place_on}
+use Rattle.fd_draw.proofs.Canvases.{lent_on, lent_same}
 use Rattle.fd_draw.proofs.Counts.{total_more, pixels_in-rows, spans_in-rows, pixels_in-row, spans_in-row, written_in_row-span}
 use Rattle.fd_draw.proofs.Painting.{above, PaintsIn, Paints-first, Paints-row}
 use Rattle.fd_draw.proofs.PixelTests.{row_count, Paints-row_done}
@@ -26,10 +28,13 @@ region_spans-row false written p y crossed = spans_in-row written p y crossed
 
 -- the rows above this one are done, and the room for the others is left
 pub record AreRowsDone (tested : Bool) (written : ℕ → ℕ → Bool) (paint : ℕ → ℕ → Pixel → Pixel) (keep : ℕ → ℕ → Pixel → List Pixel) (bottom row : ℕ)
-    (t : TileImage) (u : Undo) (t' : TileImage) (u' : Undo) : Type 0 where
-  pub painted : PaintsIn (above written row) paint keep t u t' u'
-  pub spans : u.spans_left + total (row_spans_of tested written t.place) row (bottom - row) ≤ u'.spans_left + region_spans tested written t.place
-  pub pixels : u.pixels_left + total (written_in_row written t.place) row (bottom - row) ≤ u'.pixels_left + pixels_in written t.place
+    (c c' : Canvas) : Type 0 where
+  pub lent : IsLentAs c c'
+  pub painted : PaintsIn (above written row) paint keep c.tile.now c.undo.now c'.tile.now c'.undo.now
+  pub spans : c.undo.now.spans_left + total (row_spans_of tested written (place_on c)) row (bottom - row)
+      ≤ c'.undo.now.spans_left + region_spans tested written (place_on c)
+  pub pixels : c.undo.now.pixels_left + total (written_in_row written (place_on c)) row (bottom - row)
+      ≤ c'.undo.now.pixels_left + pixels_in written (place_on c)
 
 region_spans-rows : (tested : Bool) (written covered : ℕ → ℕ → Bool) {p : Place} {box : Bounds} → LiesIn box p → IsWrittenIn written covered p box
     → region_spans tested written p ≡ total (row_spans_of tested written p) box.top (box.bottom - box.top)
@@ -37,47 +42,49 @@ region_spans-rows true written covered inside is = pixels_in-rows written covere
 region_spans-rows false written covered inside is = spans_in-rows written covered _ _ inside is
 
 module _ {tested : Bool} {written : ℕ → ℕ → Bool} (covered : ℕ → ℕ → Bool) {paint : ℕ → ℕ → Pixel → Pixel} {keep : ℕ → ℕ → Pixel → List Pixel}
-    {t : TileImage} {u : Undo} {box : Bounds} (inside : LiesIn box t.place) (is : IsWrittenIn written covered t.place box) where
-  pub rows_first : IsTileImage t → u.frame_left ≡ false → AreRowsDone tested written paint keep box.bottom box.top t u t u
-  rows_first filled begun = record {
-    painted = Paints-first written covered paint keep t box is filled begun;
+    {c : Canvas} {box : Bounds} (inside : LiesIn box (place_on c)) (is : IsWrittenIn written covered (place_on c) box) where
+  pub rows_first : AreRowsDone tested written paint keep box.bottom box.top c c
+  rows_first = record {
+    lent = lent_same c;
+    painted = Paints-first written covered paint keep c.tile.now box is c.filled c.begun;
     spans = omega (arith, region_spans-rows tested written covered inside is);
-    pixels = omega (arith, pixels_in-rows written covered t.place box inside is);
+    pixels = omega (arith, pixels_in-rows written covered (place_on c) box inside is);
   }
 
-  module _ {row : ℕ} (from : box.top ≤ row) (to : row < box.bottom) {t' : TileImage} {u' : Undo}
-      (done : AreRowsDone tested written paint keep box.bottom row t u t' u') where
-    pub row_crossed : HasRow t.place row
+  module _ {row : ℕ} (from : box.top ≤ row) (to : row < box.bottom) {c' : Canvas}
+      (done : AreRowsDone tested written paint keep box.bottom row c c') where
+    pub row_crossed : HasRow (place_on c) row
     row_crossed = record { from_top = omega (arith, inside.from_top); to_bottom = omega (arith, inside.to_bottom) }
 
-    more_spans : region_spans tested (in_row written row) t.place + total (row_spans_of tested written t.place) (row + 1) (box.bottom - (row + 1))
-        ≡ total (row_spans_of tested written t.place) row (box.bottom - row)
-    more_spans = omega (arith, region_spans-row tested written t.place row row_crossed, total_more (row_spans_of tested written t.place) row box.bottom to)
+    more_spans : region_spans tested (in_row written row) (place_on c) + total (row_spans_of tested written (place_on c)) (row + 1) (box.bottom - (row + 1))
+        ≡ total (row_spans_of tested written (place_on c)) row (box.bottom - row)
+    more_spans =
+        let first = total_more (row_spans_of tested written (place_on c)) row box.bottom to in
+        omega (arith, region_spans-row tested written (place_on c) row row_crossed, first)
 
-    more_pixels : pixels_in (in_row written row) t.place + total (written_in_row written t.place) (row + 1) (box.bottom - (row + 1))
-        ≡ total (written_in_row written t.place) row (box.bottom - row)
-    more_pixels = omega (arith, pixels_in-row written t.place row row_crossed, total_more (written_in_row written t.place) row box.bottom to)
+    more_pixels : pixels_in (in_row written row) (place_on c) + total (written_in_row written (place_on c)) (row + 1) (box.bottom - (row + 1))
+        ≡ total (written_in_row written (place_on c)) row (box.bottom - row)
+    more_pixels = omega (arith, pixels_in-row written (place_on c) row row_crossed, total_more (written_in_row written (place_on c)) row box.bottom to)
 
-    pub row_room : HasRoom (region_spans tested written t.place) (pixels_in written t.place) u
-        → HasRoom (region_spans tested (in_row written row) t'.place) (pixels_in (in_row written row) t'.place) u'
+    pub row_room : HasRoom (region_spans tested written (place_on c)) (pixels_in written (place_on c)) c.undo.now
+        → HasRoom (region_spans tested (in_row written row) (place_on c')) (pixels_in (in_row written row) (place_on c')) c'.undo.now
     row_room room =
-        subst (λ (q : Place). HasRoom (region_spans tested (in_row written row) q) (pixels_in (in_row written row) q) u') (sym done.painted.placed) (record {
-          begun = done.painted.begun;
-          spans = omega (arith, more_spans, done.spans, room.spans);
-          pixels = omega (arith, more_pixels, done.pixels, room.pixels);
-        })
+        subst (λ (q : Place). HasRoom (region_spans tested (in_row written row) q) (pixels_in (in_row written row) q) c'.undo.now)
+        (sym done.painted.placed)
+        (record { spans = omega (arith, more_spans, done.spans, room.spans); pixels = omega (arith, more_pixels, done.pixels, room.pixels) })
 
-    pub rows_next : {t'' : TileImage} {u'' : Undo} → WritesRegion (region_spans tested (in_row written row) t'.place) (pixels_in (in_row written row) t'.place)
-        (in_row written row) paint keep t' u' t'' u''
-        → AreRowsDone tested written paint keep box.bottom (row + 1) t u t'' u''
+    pub rows_next : {c'' : Canvas} → WritesRegion (region_spans tested (in_row written row) (place_on c')) (pixels_in (in_row written row) (place_on c'))
+        (in_row written row) paint keep c' c''
+        → AreRowsDone tested written paint keep box.bottom (row + 1) c c''
     rows_next writes = record {
+      lent = lent_on done.lent writes.lent;
       painted = Paints-row written paint keep row done.painted writes.painted;
       spans = omega (arith, more_spans, ap (λ (q : Place). region_spans tested (in_row written row) q) done.painted.placed, done.spans, writes.spans);
       pixels = omega (arith, more_pixels, ap (λ (q : Place). pixels_in (in_row written row) q) done.painted.placed, done.pixels, writes.pixels);
     }
 
-  pub rows_last : {row : ℕ} {t' : TileImage} {u' : Undo} → box.bottom ≤ row → AreRowsDone tested written paint keep box.bottom row t u t' u'
-      → WritesRegion (region_spans tested written t.place) (pixels_in written t.place) written paint keep t u t' u'
+  pub rows_last : {row : ℕ} {c' : Canvas} → box.bottom ≤ row → AreRowsDone tested written paint keep box.bottom row c c'
+      → WritesRegion (region_spans tested written (place_on c)) (pixels_in written (place_on c)) written paint keep c c'
   rows_last last done = grind arith
 
 -- a row in which one span is written
@@ -91,10 +98,11 @@ module _ (tested : Bool) (written : ℕ → ℕ → Bool) {p : Place} {y : ℕ} 
       → HasRoom (run_spans tested run) (run.right - run.left) u
   span_room room = grind (arith, span_spans tested, row_count written run crossed span, room)
 
-  pub span_done : {paint : ℕ → ℕ → Pixel → Pixel} {keep : ℕ → ℕ → Pixel → List Pixel} {t t' : TileImage} {u u' : Undo}
-      → run.y ≡ y → t.place ≡ p → WritesRun (run_spans tested run) run paint keep t u t' u'
-      → WritesRegion (region_spans tested (in_row written y) p) (pixels_in (in_row written y) p) (in_row written y) paint keep t u t' u'
+  pub span_done : {paint : ℕ → ℕ → Pixel → Pixel} {keep : ℕ → ℕ → Pixel → List Pixel} {c c' : Canvas}
+      → run.y ≡ y → (place_on c) ≡ p → WritesRun (run_spans tested run) run paint keep c c'
+      → WritesRegion (region_spans tested (in_row written y) p) (pixels_in (in_row written y) p) (in_row written y) paint keep c c'
   span_done same placed writes = record {
+    lent = writes.lent;
     painted = Paints-row_done written run crossed span _ _ same placed writes.painted;
     spans = omega (arith, span_spans tested, writes.spans);
     pixels = omega (arith, row_count written run crossed span, writes.pixels);

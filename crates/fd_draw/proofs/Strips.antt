@@ -22,6 +22,7 @@ use Rattle.fd_undo.specs.Undo.{Undo, with_kept}
 use Rattle.fd_undo.proofs.KeptAt.{kept_at-append, kept_at-rows_outside, kept_at-rows_inside, kept_at-inside}
 use Rattle.fd_undo.proofs.Restored.{kept_rows-inside}
 use Rattle.fd_undo.proofs.FrameLemmas.{top-push, older-push, length-zip_equal, length-row_cut}
+use Rattle.fd_draw.specs.declared.canvas.Canvas.{Canvas}
 use Rattle.fd_draw.specs.declared.primitive.Primitive.{Primitive}
 use Rattle.fd_draw.specs.Demand.{total, written_in_row, pixels_in, spans_in, region_spans}
 use Rattle.fd_draw.specs.declared.found.Found.{Found}
@@ -31,8 +32,9 @@ use Rattle.fd_draw.specs.declared.run.Run.{Run}
 use Rattle.fd_draw.specs.Run.{across, ends_of}
 use Rattle.fd_draw.specs.Span.{IsRowSpan}
 use Rattle.fd_draw.specs.Written.{as_it_is}
-use Rattle.fd_draw.specs.Writing.{ChangesRegion, HasRoom, HasRows, WritesRegion, kept_where, keep_each, rows_between}
+use Rattle.fd_draw.specs.Writing.{ChangesRegion, after_where, HasRoom, HasRows, WritesRegion, keep_each, kept_where, place_on, rows_between}
 use Rattle.fd_draw.proofs.Areas.{drawn_reached}
+use Rattle.fd_draw.proofs.Canvases.{lent_on}
 use Rattle.fd_draw.proofs.Counts.{pixels_in-all, spans_in-all, total_constant, total_more, total_same, total_split, written_in_row-span}
 use Rattle.fd_draw.proofs.Painting.{above, PaintsIn, Paints-both, Paints-same}
 use Rattle.fd_draw.proofs.PixelTests.{cond_at, draws_all}
@@ -40,7 +42,7 @@ use Rattle.fd_draw.proofs.RowByRow.{AreRowsDone, row_spans_of}
 
 -- ---- rows that are kept
 
-module _ {t : TileImage} {first last : ℕ} (is : HasRows first last t) where
+module _ {t : TileImage} {first last : ℕ} (is : HasRows first last t.place) (filled : IsTileImage t) where
   abbrev height : ℕ
   height = last - first
 
@@ -52,7 +54,7 @@ module _ {t : TileImage} {first last : ℕ} (is : HasRows first last t) where
   known_rows ds (Some depth) long rows flat = rows_alike t.place.width height ds depth long (λ n below. rows n below ∙ level n below)
     where
       level : (n : ℕ) → n < height → depth_row_of t (first + n) ≡ replicate t.place.width depth
-      level n below = row_in-flat t.place t.depths (first + n) is.filled.depths
+      level n below = row_in-flat t.place t.depths (first + n) filled.depths
           (record { from_top = omega (arith, is.from_top); to_bottom = omega (arith, below, is.to_bottom) }) depth flat
 
   module _ (cs : List Colour) (ds : List ℕ) (long : length cs ≡ height * t.place.width) (equal : length ds ≡ length cs)
@@ -99,7 +101,7 @@ module _ {t : TileImage} {first last : ℕ} (is : HasRows first last t) where
     Paints-strip {u} begun kept = rw kept (record {
       placed = refl;
       made = refl;
-      filled = is.filled;
+      filled = filled;
       below = older-push (older u.frames) (top u.frames ++ kept_place strip cs ds);
       begun = begun;
       opening = refl;
@@ -117,20 +119,27 @@ module _ {t : TileImage} {first last : ℕ} (is : HasRows first last t) where
 -- ---- a triangle that is drawn at all of them
 
 -- rows that were kept, and then changed
-pub Paints-changed : {change : ℕ → ℕ → Pixel → Pixel} {region : ℕ → ℕ → Bool} {t t' : TileImage} {u u' : Undo}
-    → PaintsIn region as_it_is keep_each t u t u' → ChangesRegion change region t t' → PaintsIn region change keep_each t u t' u'
-Paints-changed kept changed = record {
-  placed = changed.placed;
-  made = changed.made;
+pub Paints-changed : {change : ℕ → ℕ → Pixel → Pixel} {region : ℕ → ℕ → Bool} {t t' t'' : TileImage} {u u' : Undo}
+    → PaintsIn region as_it_is keep_each t u t' u' → ChangesRegion change region t' t'' → PaintsIn region change keep_each t u t'' u'
+Paints-changed {change} {region} {t} {t'} kept changed = record {
+  placed = changed.placed ∙ kept.placed;
+  made = changed.made ∙ kept.made;
   filled = changed.filled;
   below = kept.below;
   begun = kept.begun;
   opening = kept.opening;
   some = kept.some;
-  pixels = changed.pixels;
+  pixels = λ x y held.
+      let there : Holds t'.place x y = subst (λ p. Holds p x y) (sym kept.placed) held in
+      let stays : pixel_of t' x y ≡ pixel_of t x y = kept.pixels x y held ∙ either (region x y) (pixel_of t x y) in
+      changed.pixels x y there ∙ ap (λ q. after_where region change x y q) stays;
   kept = kept.kept;
   inside = kept.inside;
 }
+  where
+    either : (b : Bool) (q : Pixel) → cond b q q ≡ q
+    either true q = refl
+    either false q = refl
 
 pub Paints-all_drawn : (p : Primitive) {first last : ℕ} {t t' : TileImage} {u u' : Undo} → DrawsRows p t.place first last
     → PaintsIn (rows_between first last) (blended_by p) keep_each t u t' u'
@@ -157,13 +166,13 @@ Paints-all_drawn p {first} {last} {t} is = Paints-same
 -- ---- several rows of a box that are written from side to side
 
 module _ {tested : Bool} {written : ℕ → ℕ → Bool} {paint : ℕ → ℕ → Pixel → Pixel} {keep : ℕ → ℕ → Pixel → List Pixel}
-    {t : TileImage} {u : Undo} {bottom row end : ℕ} (some : row < end) (within : end ≤ bottom) (placed : 1 ≤ t.place.width)
-    (all : (x y : ℕ) → Holds t.place x y → row ≤ y → y < end → written x y ≡ true)
-    (from_top : t.place.top ≤ row) (to_bottom : bottom ≤ t.place.top + t.place.height)
-    {t' : TileImage} {u' : Undo} (done : AreRowsDone tested written paint keep bottom row t u t' u') where
-  full : (y : ℕ) → row ≤ y → y < end → written_in_row written t.place y ≡ t.place.width
+    {c : Canvas} {bottom row end : ℕ} (some : row < end) (within : end ≤ bottom) (placed : 1 ≤ (place_on c).width)
+    (all : (x y : ℕ) → Holds (place_on c) x y → row ≤ y → y < end → written x y ≡ true)
+    (from_top : (place_on c).top ≤ row) (to_bottom : bottom ≤ (place_on c).top + (place_on c).height)
+    {c' : Canvas} (done : AreRowsDone tested written paint keep bottom row c c') where
+  full : (y : ℕ) → row ≤ y → y < end → written_in_row written (place_on c) y ≡ (place_on c).width
   full y low high =
-      written_in_row-span written t.place y t.place.left (t.place.left + t.place.width) (record {
+      written_in_row-span written (place_on c) y (place_on c).left ((place_on c).left + (place_on c).width) (record {
         bounds = (omega arith, omega (arith, placed), omega arith);
         same = λ x from to.
             let here = all x y (record {
@@ -181,45 +190,47 @@ module _ {tested : Bool} {written : ℕ → ℕ → Bool} {paint : ℕ → ℕ �
       ∙ total_split f row (end - row) (bottom - end)
       ∙ ap (λ k. total f row (end - row) + total f k (bottom - end)) {x = row + (end - row)} {y = end} (omega (arith, some))
 
-  more_pixels : (end - row) * t.place.width + total (written_in_row written t.place) end (bottom - end)
-      ≡ total (written_in_row written t.place) row (bottom - row)
+  more_pixels : (end - row) * (place_on c).width + total (written_in_row written (place_on c)) end (bottom - end)
+      ≡ total (written_in_row written (place_on c)) row (bottom - row)
   more_pixels =
-      let here = total_same (written_in_row written t.place) (λ _. t.place.width) row (end - row) (λ y low high. full y low (omega (arith, high, some)))
-      ∙ total_constant t.place.width row (end - row) in
-      omega (arith, here, parts (written_in_row written t.place))
+      let here = total_same (written_in_row written (place_on c)) (λ _. (place_on c).width) row (end - row)
+      (λ y low high. full y low (omega (arith, high, some)))
+      ∙ total_constant (place_on c).width row (end - row) in
+      omega (arith, here, parts (written_in_row written (place_on c)))
 
-  one_span : 1 ≤ row_spans_of tested written t.place row
+  one_span : 1 ≤ row_spans_of tested written (place_on c) row
   one_span = by_test tested
     where
-      by_test : (b : Bool) → 1 ≤ row_spans_of b written t.place row
+      by_test : (b : Bool) → 1 ≤ row_spans_of b written (place_on c) row
       by_test true = omega (arith, full row (omega arith) some, placed)
       by_test false = omega (arith, full row (omega arith) some, placed)
 
-  more_spans : 1 + total (row_spans_of tested written t.place) end (bottom - end) ≤ total (row_spans_of tested written t.place) row (bottom - row)
+  more_spans : 1 + total (row_spans_of tested written (place_on c)) end (bottom - end) ≤ total (row_spans_of tested written (place_on c)) row (bottom - row)
   more_spans =
-      let first = total_more (row_spans_of tested written t.place) row end some in
-      omega (arith, parts (row_spans_of tested written t.place), first, one_span)
+      let first = total_more (row_spans_of tested written (place_on c)) row end some in
+      omega (arith, parts (row_spans_of tested written (place_on c)), first, one_span)
 
-  pub strip_room : HasRoom (region_spans tested written t.place) (pixels_in written t.place) u → HasRoom 1 ((end - row) * t'.place.width) u'
+  pub strip_room : HasRoom (region_spans tested written (place_on c)) (pixels_in written (place_on c)) c.undo.now
+      → HasRoom 1 ((end - row) * (place_on c').width) c'.undo.now
   strip_room room =
-      subst (λ (q : Place). HasRoom 1 ((end - row) * q.width) u') (sym done.painted.placed) (record {
-        begun = done.painted.begun;
+      subst (λ (q : Place). HasRoom 1 ((end - row) * q.width) c'.undo.now) (sym done.painted.placed) (record {
         spans = omega (arith, more_spans, done.spans, room.spans);
         pixels = omega (arith, more_pixels, done.pixels, room.pixels);
       })
 
-  pub strip_next : {t'' : TileImage} {u'' : Undo} → WritesRegion 1 ((end - row) * t'.place.width) (rows_between row end) paint keep t' u' t'' u''
-      → AreRowsDone tested written paint keep bottom end t u t'' u''
+  pub strip_next : {c'' : Canvas} → WritesRegion 1 ((end - row) * (place_on c').width) (rows_between row end) paint keep c' c''
+      → AreRowsDone tested written paint keep bottom end c c''
   strip_next writes = record {
+    lent = lent_on done.lent writes.lent;
     painted = Paints-both paint keep (above written row) (λ x y. rows_between row end x y && written x y) (above written end)
         (λ x y. grind (arith, nat_tests)) (λ x y. grind (arith, nat_tests, some)) done.painted
-        (Paints-same (λ x y held. ap (λ b. cond b (paint x y (pixel_of t' x y)) (pixel_of t' x y)) (same x y held))
-        (λ x y held. ap (λ b. cond b (keep x y (pixel_of t' x y)) []) (same x y held)) writes.painted);
+        (Paints-same (λ x y held. ap (λ b. cond b (paint x y (pixel_of c'.tile.now x y)) (pixel_of c'.tile.now x y)) (same x y held))
+        (λ x y held. ap (λ b. cond b (keep x y (pixel_of c'.tile.now x y)) []) (same x y held)) writes.painted);
     spans = omega (arith, more_spans, done.spans, writes.spans);
     pixels = omega (arith, more_pixels, ap (λ (q : Place). (end - row) * q.width) done.painted.placed, done.pixels, writes.pixels);
   }
     where
-      same : (x y : ℕ) → Holds t'.place x y → rows_between row end x y ≡ (rows_between row end x y && written x y)
+      same : (x y : ℕ) → Holds (place_on c') x y → rows_between row end x y ≡ (rows_between row end x y && written x y)
       same x y held = by_rows (rows_between row end x y) refl
         where
           by_rows : (b : Bool) → rows_between row end x y ≡ b → b ≡ (b && written x y)
@@ -275,11 +286,10 @@ module _ (t : TileImage) (filled : IsTileImage t) where
   tile_room room =
       let placed = filled.colours.placed in
       record {
-        begun = room.begun;
         spans = omega (arith, spans_in-all t.place placed.wide, placed.high, room.spans);
         pixels = omega (arith, pixels_in-all t.place, mul_comm t.place.width t.place.height, ap (λ k. k * t.place.width) all_rows, room.pixels);
       }
 
-  pub Paints-tile : {u u' : Undo} → PaintsIn (rows_between t.place.top (t.place.top + t.place.height)) as_it_is keep_each t u t u'
-      → PaintsIn (λ _ _. true) as_it_is keep_each t u t u'
+  pub Paints-tile : {t' : TileImage} {u u' : Undo} → PaintsIn (rows_between t.place.top (t.place.top + t.place.height)) as_it_is keep_each t u t' u'
+      → PaintsIn (λ _ _. true) as_it_is keep_each t u t' u'
   Paints-tile = Paints-same (λ x y held. grind (arith, nat_tests, held)) (λ x y held. grind (arith, nat_tests, held))

@@ -1,8 +1,10 @@
 -- Working. Writing some pixels of a tile, which are kept first.
-use Rattle.std.specs.Prelude.{◌≡◌, ◌≤◌, ◌<◌, ℕ, ◌+◌, ◌-◌, Bool, true, false, nat_le, nat_lt, List, [], ◌∷◌, ◌==◌, ◌&&◌, slice_index_or, if◌then◌else◌}
+use Rattle.std.specs.Prelude.{◌≡◌, ◌≤◌, ◌<◌, ℕ, ◌+◌, ◌-◌, Bool, nat_le, nat_lt, List, [], ◌∷◌, ◌==◌, ◌&&◌, slice_index_or, if◌then◌else◌}
+use Rattle.fd_tile.specs.declared.place.Place.{Place}
 use Rattle.fd_tile.specs.Place.{Holds, HasRow}
 use Rattle.fd_tile.specs.Tile.{Pixel, TileImage, IsTileImage, pixel_of}
 use Rattle.fd_undo.specs.Undo.{Undo}
+use Rattle.fd_draw.specs.declared.canvas.Canvas.{Canvas}
 use Rattle.fd_draw.specs.declared.run.Run.{Run}
 use Rattle.fd_draw.specs.Paints.{Paints}
 
@@ -33,38 +35,48 @@ rows_between first last x y = nat_le first y && nat_lt y last
 abbrev pub in_run : Run → ℕ → ℕ → Bool
 in_run run = in_row (columns_between run.left run.right) run.y
 
--- a tile with its memory has the pixels of a run
-pub record HasRun (run : Run) (t : TileImage) : Type 0 where
-  pub made : t.made ≡ true
-  pub filled : IsTileImage t
-  pub crossed : HasRow t.place run.y
-  pub from_left : t.place.left ≤ run.left
+-- where a canvas lies
+abbrev pub place_on : Canvas → Place
+place_on c = c.tile.now.place
+
+-- a place has the pixels of a run
+pub record HasRun (run : Run) (p : Place) : Type 0 where
+  pub crossed : HasRow p run.y
+  pub from_left : p.left ≤ run.left
   pub some : run.left < run.right
-  pub to_right : run.right ≤ t.place.left + t.place.width
+  pub to_right : run.right ≤ p.left + p.width
 
--- a tile with its memory has the rows from one up to another
-pub record HasRows (top bottom : ℕ) (t : TileImage) : Type 0 where
-  pub made : t.made ≡ true
-  pub filled : IsTileImage t
-  pub from_top : t.place.top ≤ top
+-- a place has the rows from one up to another
+pub record HasRows (top bottom : ℕ) (p : Place) : Type 0 where
+  pub from_top : p.top ≤ top
   pub some : top < bottom
-  pub to_bottom : bottom ≤ t.place.top + t.place.height
+  pub to_bottom : bottom ≤ p.top + p.height
 
--- a frame was begun, and has room for so many spans and pixels
+-- there is room for so many spans and pixels
 pub record HasRoom (span_count pixel_count : ℕ) (u : Undo) : Type 0 where
-  pub begun : u.frame_left ≡ false
   pub spans : span_count ≤ u.spans_left
   pub pixels : pixel_count ≤ u.pixels_left
 
+-- a canvas still borrows the same tile and the same undo records
+pub record IsLentAs (c c' : Canvas) : Type 0 where
+  pub tile : c'.tile.ghost_name ≡ c.tile.ghost_name
+  pub undo : c'.undo.ghost_name ≡ c.undo.ghost_name
+
+-- on what it borrows each pixel is what `after` makes of it, and the top frame keeps in addition what `replaced` says of it
+pub record PaintsOn (after : ℕ → ℕ → Pixel → Pixel) (replaced : ℕ → ℕ → Pixel → List Pixel) (c c' : Canvas) : Type 0 where
+  pub lent : IsLentAs c c'
+  pub painted : Paints after replaced c.tile.now c.undo.now c'.tile.now c'.undo.now
+
 -- each pixel of a region becomes what `paint` makes of it, what `keep` says of it is kept, and no more than so many spans and pixels are used up
 pub record WritesRegion (span_count pixel_count : ℕ) (region : ℕ → ℕ → Bool) (paint : ℕ → ℕ → Pixel → Pixel) (keep : ℕ → ℕ → Pixel → List Pixel)
-    (t : TileImage) (u : Undo) (t' : TileImage) (u' : Undo) : Type 0 where
-  pub painted : Paints (after_where region paint) (kept_where region keep) t u t' u'
-  pub spans : u.spans_left ≤ u'.spans_left + span_count
-  pub pixels : u.pixels_left ≤ u'.pixels_left + pixel_count
+    (c c' : Canvas) : Type 0 where
+  pub lent : IsLentAs c c'
+  pub painted : Paints (after_where region paint) (kept_where region keep) c.tile.now c.undo.now c'.tile.now c'.undo.now
+  pub spans : c.undo.now.spans_left ≤ c'.undo.now.spans_left + span_count
+  pub pixels : c.undo.now.pixels_left ≤ c'.undo.now.pixels_left + pixel_count
 
 -- those of a run, with so many spans
-abbrev pub WritesRun : ℕ → Run → (ℕ → ℕ → Pixel → Pixel) → (ℕ → ℕ → Pixel → List Pixel) → TileImage → Undo → TileImage → Undo → Type 0
+abbrev pub WritesRun : ℕ → Run → (ℕ → ℕ → Pixel → Pixel) → (ℕ → ℕ → Pixel → List Pixel) → Canvas → Canvas → Type 0
 WritesRun span_count run = WritesRegion span_count (run.right - run.left) (in_run run)
 
 -- the pixels of a region change, and no other

@@ -7,8 +7,8 @@ use Rattle.fd_events.specs.declared.pipeline.Pipeline.{Pipeline}
 use Rattle.fd_events.specs.Draw.{Triangle}
 use Rattle.fd_events.specs.Image.{is_drawn, source_of}
 use Rattle.fd_tile.specs.Tile.{Pixel, TileImage, with_colours, with_depths}
-use Rattle.fd_draw.specs.declared.clear.Clear.{Clear}
-use Rattle.fd_draw.specs.declared.clear.Clear.TheVariants.{Colours, Depths}
+use Rattle.fd_events.specs.declared.effect.Clear.{Clear}
+use Rattle.fd_events.specs.declared.effect.Clear.TheVariants.{Colours, Depths}
 
 -- a clear's colour, or its depth
 abbrev pub cleared : Clear → Pixel → Pixel

@@ -7,31 +7,23 @@ ghost use Rattle.fd_undo.specs.Undo.{without_room};
 ghost use Rattle.fd_draw.specs.Demand.{pixels_in, spans_in, event_pixels};
 ghost use Rattle.fd_draw.specs.Written.{cleared, with_cleared};
 ghost use Rattle.fd_draw.specs.Paints.{Paints};
-ghost use Rattle.fd_draw.specs.Writing.{HasRoom, keep_each};
+ghost use Rattle.fd_draw.specs.Writing.{HasRoom, PaintsOn, keep_each, place_on};
 ghost use Rattle.fd_memory.specs.Wanting.{Wanted};
 
-use crate::strip::keep_strip;
-use fd_blend::Colour;
-use fd_events::{Event, Pipeline};
+use crate::canvas::Canvas;
+use fd_events::{Clear, Effect, Event, Pipeline};
 use fd_tile::Tile;
 use fd_undo::{Full, UndoStack};
 
-/// What a clear gives to each pixel: a colour, or a depth. The other one stays.
-#[derive(Clone, Copy)]
-pub(crate) enum Clear {
-    Colours(Colour),
-    Depths(u16),
-}
-
 /// Keeps and then clears the pixels of a tile.
-pub(crate) fn clear_tile(clear: Clear, tile: &mut Tile, undo: &mut UndoStack)
-    requires made { tile.old.made ≡ true }
-    requires room { HasRoom (spans_in (λ _ _. true) tile.old.place) (pixels_in (λ _ _. true) tile.old.place) undo.old }
-    ensures { Paints (λ _ _. cleared clear) keep_each tile.old undo.old tile.new undo.new }
+pub(crate) fn clear_tile(clear: Clear, canvas: &mut Canvas<'_>)
+    requires room { HasRoom (spans_in (λ _ _. true) (place_on canvas.old)) (pixels_in (λ _ _. true) (place_on canvas.old))
+        canvas.old.undo.now }
+    ensures { PaintsOn (λ _ _. cleared clear) keep_each canvas.old canvas.new }
 {
-    let place = tile.place();
-    keep_strip(place.top, place.top + place.height, tile, undo);
-    fill(clear, tile);
+    let place = canvas.tile.place();
+    canvas.keep_rows(place.top, place.top + place.height);
+    fill(clear, canvas.tile);
 }
 
 /// Draws a clear on a tile whose pixels are known to be alike, and puts a frame on top that keeps them as one colour and one depth. It says
@@ -45,10 +37,8 @@ pub fn clear_alike(event: &Event, tile: &mut Tile, undo: &mut UndoStack) -> Resu
     ensures free { (state : Pipeline) → event_pixels event.now state tile.old.place ≡ 0 → IsOk result }
     ensures wanted { OnErr result (length undo.old.frames < 4294967295 → Wanted) }
 {
-    let clear = match event {
-        Event::Clear(colour) => Clear::Colours(*colour),
-        Event::DepthClear(depth) => Clear::Depths(*depth),
-        _ => return Ok(false),
+    let Effect::Clear(clear) = event.effect() else {
+        return Ok(false);
     };
     let (Some(colour), Some(depth)) = (tile.flat_colour(), tile.flat_depth()) else {
         return Ok(false);

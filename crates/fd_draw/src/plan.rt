@@ -21,7 +21,7 @@ use crate::found::{Found, find};
 use crate::primitive::is_tested;
 use arrayvec::ArrayVec;
 use fd_cover::{Bounds, Depth, Func, Raster, Rect};
-use fd_events::{Draw, Event, Pipeline};
+use fd_events::{Draw, Effect, Event, Pipeline};
 use fd_tile::Place;
 
 /// How many triangles a plan keeps.
@@ -93,12 +93,10 @@ impl Plan {
         self.demand = NOTHING;
         self.planned.clear();
         self.rest = 0;
-        match event {
-            Event::Clear(_) => self.demand = demand_of_all(place),
-            Event::DepthClear(_) => self.demand = demand_of_all(place),
-            Event::Draw(draw) => self.add_draw(draw, state, place, first),
-            // State events and markers write nothing.
-            _ => {}
+        match event.effect() {
+            Effect::Clear(_) => self.demand = demand_of_all(place),
+            Effect::Draw(draw) => self.add_draw(draw, state, place, first),
+            Effect::State | Effect::Nothing => {}
         }
     }
 
@@ -159,8 +157,8 @@ pub fn first_listed(event: &Event, place: Place) -> Option<u32>
     ensures first { IfSome result (λ first. MayBeginAt event.now place first) }
     ensures none { IfNone result ((s : Pipeline) → WritesNothing event.now s place) }
 {
-    match event {
-        Event::Draw(draw) => {
+    match event.effect() {
+        Effect::Draw(draw) => {
             let first = draw.next_listed(0, box_of(place));
             if first < draw.triangles() {
                 Some(first)
@@ -168,7 +166,7 @@ pub fn first_listed(event: &Event, place: Place) -> Option<u32>
                 None
             }
         }
-        _ => Some(0),
+        Effect::Clear(_) | Effect::State | Effect::Nothing => Some(0),
     }
 }
 
@@ -178,15 +176,15 @@ pub fn draws_nothing(event: &Event, state: &Pipeline, place: Place) -> bool
     requires { IsTilePlace place }
     ensures { IsTrue result → WritesNothing event.now state.now place }
 {
-    match event {
-        Event::Draw(draw) => {
+    match event.effect() {
+        Effect::Draw(draw) => {
             if is_shut(&state.depth) {
                 return true;
             }
             let window = window_of(draw, state, place);
             is_idle(draw, &state.raster, window)
         }
-        _ => false,
+        Effect::Clear(_) | Effect::State | Effect::Nothing => false,
     }
 }
 

@@ -5,48 +5,26 @@ ghost use Rattle.fd_tile.specs.Place.{Holds, IsTilePlace};
 ghost use Rattle.fd_draw.specs.Plan.{IsFoundOn};
 ghost use Rattle.fd_draw.specs.Primitive.{DrawsRows, IsReady, blended_by, kept_of, painted_by, triangle_of};
 ghost use Rattle.fd_draw.specs.Written.{as_it_is};
-ghost use Rattle.fd_draw.specs.Writing.{ChangesRegion, HasRoom, HasRows, WritesRegion, keep_each, rows_between};
+ghost use Rattle.fd_draw.specs.Writing.{ChangesRegion, HasRoom, HasRows, WritesRegion, place_on, rows_between};
 
+use crate::canvas::Canvas;
 use crate::found::Found;
 use crate::primitive::Primitive;
 use crate::run::Run;
 use crate::write::blend_span;
 use fd_tile::{Place, Tile};
-use fd_undo::UndoStack;
-
-/// Keeps the rows from `top` up to `bottom`.
-pub(crate) fn keep_strip(top: u32, bottom: u32, tile: &Tile, undo: &mut UndoStack)
-    requires rows { HasRows top bottom tile.now }
-    requires room { HasRoom 1 ((bottom - top) * tile.now.place.width) undo.old }
-    ensures { WritesRegion 1 ((bottom - top) * tile.now.place.width) (rows_between top bottom) as_it_is keep_each tile.now undo.old tile.now undo.new }
-{
-    let height = bottom - top;
-    let strip = Place {
-        top,
-        height,
-        ..tile.place()
-    };
-    let (colours, depths) = (tile.rows(top, height), tile.depth_rows(top, height));
-    undo.keep_place(strip, colours, depths, tile.flat_depth());
-}
 
 /// Keeps and then blends the rows from `top` up to `bottom`, at all of whose pixels a triangle is drawn.
-pub(crate) fn draw_strip(
-    primitive: &Primitive<'_>,
-    top: u32,
-    bottom: u32,
-    tile: &mut Tile,
-    undo: &mut UndoStack,
-)
-    requires rows { HasRows top bottom tile.old }
+pub(crate) fn draw_strip(primitive: &Primitive<'_>, top: u32, bottom: u32, canvas: &mut Canvas<'_>)
+    requires rows { HasRows top bottom (place_on canvas.old) }
     requires ready { IsReady primitive.now }
-    requires drawn { DrawsRows primitive.now tile.old.place top bottom }
-    requires room { HasRoom 1 ((bottom - top) * tile.old.place.width) undo.old }
-    ensures { WritesRegion 1 ((bottom - top) * tile.old.place.width) (rows_between top bottom) (painted_by primitive.now) (kept_of primitive.now)
-        tile.old undo.old tile.new undo.new }
+    requires drawn { DrawsRows primitive.now (place_on canvas.old) top bottom }
+    requires room { HasRoom 1 ((bottom - top) * (place_on canvas.old).width) canvas.old.undo.now }
+    ensures { WritesRegion 1 ((bottom - top) * (place_on canvas.old).width) (rows_between top bottom) (painted_by primitive.now)
+        (kept_of primitive.now) canvas.old canvas.new }
 {
-    keep_strip(top, bottom, tile, undo);
-    blend_strip(primitive, top, bottom, tile);
+    canvas.keep_rows(top, bottom);
+    blend_strip(primitive, top, bottom, canvas.tile);
 }
 
 /// Up to which row, from row y on, a triangle is seen to be drawn at all pixels of a place.
@@ -78,7 +56,8 @@ pub(crate) fn strip_end(primitive: &Primitive<'_>, found: &Found, y: u32, place:
 
 /// Blends a triangle's sources with the pixels of the rows from `top` up to `bottom`, all of which it covers.
 fn blend_strip(primitive: &Primitive<'_>, top: u32, bottom: u32, tile: &mut Tile)
-    requires rows { HasRows top bottom tile.old }
+    requires made { tile.old.made ≡ true }
+    requires rows { HasRows top bottom tile.old.place }
     requires ready { IsReady primitive.now }
     requires covered { (x y : ℕ) → Holds tile.old.place x y → top ≤ y → y < bottom → covers primitive.now.corners x y ≡ true }
     ensures { ChangesRegion (blended_by primitive.now) (rows_between top bottom) tile.old tile.new }

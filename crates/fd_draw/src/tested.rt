@@ -8,15 +8,15 @@ ghost use Rattle.fd_draw.specs.Mask.{has_bit};
 ghost use Rattle.fd_draw.specs.Primitive.{CoversRun, IsReady, ReachesRun, is_tested_by, kept_of, painted_by, triangle_of};
 ghost use Rattle.fd_draw.specs.Run.{EachColumn, run_spans};
 ghost use Rattle.fd_draw.specs.Tested.{AreDepths, AreTested};
-ghost use Rattle.fd_draw.specs.Writing.{ChangesRun, HasRoom, HasRun, WritesRun, depth_stored};
+ghost use Rattle.fd_draw.specs.Writing.{ChangesRun, HasRoom, HasRun, WritesRun, depth_stored, place_on};
 
+use crate::canvas::Canvas;
 use crate::comparison::{alike, test_row};
 use crate::primitive::Primitive;
 use crate::run::Run;
 use crate::write::{WIDEST, write_span};
 use fd_events::Picture;
 use fd_tile::Tile;
-use fd_undo::UndoStack;
 
 /// The depths that a triangle has at neighbouring pixels of a row, and a bit for each that tells whether it passes the test.
 #[derive(Clone, Copy)]
@@ -26,31 +26,32 @@ struct Tested<'a> {
 }
 
 /// Keeps and then writes those pixels of a run at which the triangle is drawn: all of them, or those that pass by runs of their own.
-pub(crate) fn draw_span(primitive: &Primitive<'_>, run: Run, tile: &mut Tile, undo: &mut UndoStack)
-    requires run { HasRun run tile.old }
+pub(crate) fn draw_span(primitive: &Primitive<'_>, run: Run, canvas: &mut Canvas<'_>)
+    requires run { HasRun run (place_on canvas.old) }
     requires ready { IsReady primitive.now }
     requires covered { CoversRun primitive.now run }
     requires reached { ReachesRun primitive.now run }
-    requires room { HasRoom (run_spans (is_tested_by primitive.now) run) (run.right - run.left) undo.old }
+    requires room { HasRoom (run_spans (is_tested_by primitive.now) run) (run.right - run.left) canvas.old.undo.now }
     ensures { WritesRun (run_spans (is_tested_by primitive.now) run) run (painted_by primitive.now) (kept_of primitive.now)
-        tile.old undo.old tile.new undo.new }
+        canvas.old canvas.new }
 {
     if !primitive.tested {
-        write_span(primitive, run, tile, undo);
+        write_span(primitive, run, canvas);
         return;
     }
     let depths = depths_on(primitive, run);
-    let passed = test_span(primitive, &depths, run, tile);
+    let passed = test_span(primitive, &depths, run, canvas.tile);
     let tested = Tested {
         depths: &depths[..run.count()],
         passed,
     };
-    draw_runs(primitive, &tested, run, tile, undo);
+    draw_runs(primitive, &tested, run, canvas);
 }
 
 /// Stores depths in a run.
 fn store_depths(depths: &[u16], run: Run, tile: &mut Tile)
-    requires run { HasRun run tile.old }
+    requires made { tile.old.made ≡ true }
+    requires run { HasRun run tile.old.place }
     requires size { length depths.now ≡ run.right - run.left }
     ensures { ChangesRun (depth_stored depths.now run.left) run tile.old tile.new }
 {
@@ -61,32 +62,27 @@ fn store_depths(depths: &[u16], run: Run, tile: &mut Tile)
 }
 
 /// Keeps and then writes the pixels of a run, at each of which the triangle, of this depth there, is drawn.
-fn draw_run(
-    primitive: &Primitive<'_>,
-    depths: &[u16],
-    run: Run,
-    tile: &mut Tile,
-    undo: &mut UndoStack,
-)
-    requires run { HasRun run tile.old }
+fn draw_run(primitive: &Primitive<'_>, depths: &[u16], run: Run, canvas: &mut Canvas<'_>)
+    requires run { HasRun run (place_on canvas.old) }
     requires ready { IsReady primitive.now }
     requires size { length depths.now ≡ run.right - run.left }
     requires covered { CoversRun primitive.now run }
     requires depths { AreDepths primitive.now run depths.now }
     requires drawn { EachColumn run
-        (λ column. is_drawn (triangle_of primitive.now) primitive.now.state column run.y (depth_in tile.old column run.y) ≡ true) }
-    requires room { HasRoom 1 (run.right - run.left) undo.old }
-    ensures { WritesRun 1 run (painted_by primitive.now) (kept_of primitive.now) tile.old undo.old tile.new undo.new }
+        (λ column. is_drawn (triangle_of primitive.now) primitive.now.state column run.y (depth_in canvas.old.tile.now column run.y) ≡ true) }
+    requires room { HasRoom 1 (run.right - run.left) canvas.old.undo.now }
+    ensures { WritesRun 1 run (painted_by primitive.now) (kept_of primitive.now) canvas.old canvas.new }
 {
-    write_span(primitive, run, tile, undo);
+    write_span(primitive, run, canvas);
     if primitive.state.depth.enable && primitive.state.depth.write {
-        store_depths(depths, run, tile);
+        store_depths(depths, run, canvas.tile);
     }
 }
 
 /// Tests the pixels of a run, at which the triangle has the first of these depths. A bit for each tells whether it is drawn there.
 fn test_span(primitive: &Primitive<'_>, depths: &[u16; WIDEST], run: Run, tile: &Tile) -> u64
-    requires run { HasRun run tile.now }
+    requires made { tile.now.made ≡ true }
+    requires run { HasRun run tile.now.place }
     requires depths { primitive.now.state.depth.enable ≡ true
         → EachColumn run (λ column. slice_index depths.now (column - run.left) ≡ source_depth (triangle_of primitive.now) column run.y) }
     requires reached { ReachesRun primitive.now run }
@@ -132,18 +128,12 @@ fn mask_of(picture: &Picture, run: Run) -> u64
 }
 
 /// Keeps and then writes those of a run's tested pixels that pass.
-fn draw_runs(
-    primitive: &Primitive<'_>,
-    tested: &Tested<'_>,
-    run: Run,
-    tile: &mut Tile,
-    undo: &mut UndoStack,
-)
-    requires run { HasRun run tile.old }
+fn draw_runs(primitive: &Primitive<'_>, tested: &Tested<'_>, run: Run, canvas: &mut Canvas<'_>)
+    requires run { HasRun run (place_on canvas.old) }
     requires ready { IsReady primitive.now }
-    requires tested { AreTested primitive.now run tile.old tested.now }
-    requires room { HasRoom (run.right - run.left) (run.right - run.left) undo.old }
-    ensures { WritesRun (run.right - run.left) run (painted_by primitive.now) (kept_of primitive.now) tile.old undo.old tile.new undo.new }
+    requires tested { AreTested primitive.now run canvas.old.tile.now tested.now }
+    requires room { HasRoom (run.right - run.left) (run.right - run.left) canvas.old.undo.now }
+    ensures { WritesRun (run.right - run.left) run (painted_by primitive.now) (kept_of primitive.now) canvas.old canvas.new }
 {
     let mut done = 0;
     while done < tested.depths.len() {
@@ -156,13 +146,7 @@ fn draw_runs(
                 right: left + count as u32,
                 y: run.y,
             };
-            draw_run(
-                primitive,
-                &tested.depths[done..done + count],
-                part,
-                tile,
-                undo,
-            );
+            draw_run(primitive, &tested.depths[done..done + count], part, canvas);
         }
         done += count;
     }

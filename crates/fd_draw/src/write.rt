@@ -12,9 +12,10 @@ ghost use Rattle.fd_draw.specs.Row.{changed_row};
 ghost use Rattle.fd_draw.specs.Paints.{Paints};
 ghost use Rattle.fd_draw.specs.Primitive.{CoversRun, IsReady, blended_by, blended_in, is_tested_by, kept_of, painted_by, reached_by, triangle_of};
 ghost use Rattle.fd_draw.specs.Plan.{ArePlanned, IsFoundOn, IsPlan};
-ghost use Rattle.fd_draw.specs.Writing.{ChangesRun, HasRoom, HasRun, WritesRegion, WritesRun, in_row, keep_each};
+ghost use Rattle.fd_draw.specs.Writing.{ChangesRun, HasRoom, HasRun, PaintsOn, WritesRegion, WritesRun, in_row, keep_each, place_on};
 
-use crate::clear::{Clear, clear_tile};
+use crate::canvas::Canvas;
+use crate::clear::clear_tile;
 use crate::found::Found;
 use crate::plan::{Plan, Planned, window_of};
 use crate::primitive::{Ink, Primitive};
@@ -23,7 +24,7 @@ use crate::strip::{draw_strip, strip_end};
 use crate::tested::draw_span;
 use fd_blend::{Blender, Colour};
 use fd_cover::shade_row;
-use fd_events::{Draw, Event, Pipeline};
+use fd_events::{Draw, Effect, Event, Pipeline};
 use fd_tile::{TILE_SIDE, Tile};
 use fd_undo::UndoStack;
 
@@ -37,29 +38,11 @@ const NO_COLOUR: Colour = Colour {
     a: 0,
 };
 
-/// Keeps the pixels of a run. It stands in its caller, as runs of a pixel or two are common under the depth test.
-#[inline(always)]
-pub(crate) fn keep_span(run: Run, tile: &Tile, undo: &mut UndoStack)
-    requires run { HasRun run tile.now }
-    requires room { HasRoom 1 (run.right - run.left) undo.old }
-    ensures { WritesRun 1 run as_it_is keep_each tile.now undo.old tile.now undo.new }
-{
-    let place = tile.place();
-    let start = (run.left - place.left) as usize;
-    let end = (run.right - place.left) as usize;
-    undo.keep_known(
-        run.left,
-        run.y,
-        &tile.row(run.y)[start..end],
-        &tile.depth_row(run.y)[start..end],
-        tile.flat_depth(),
-    );
-}
-
 /// Blends a triangle's sources with the pixels of a run, all of which it covers. It stands in its caller too.
 #[inline(always)]
 pub(crate) fn blend_span(primitive: &Primitive<'_>, run: Run, tile: &mut Tile)
-    requires run { HasRun run tile.old }
+    requires made { tile.old.made ≡ true }
+    requires run { HasRun run tile.old.place }
     requires ready { IsReady primitive.now }
     requires covered { CoversRun primitive.now run }
     ensures { ChangesRun (blended_by primitive.now) run tile.old tile.new }
@@ -72,33 +55,33 @@ pub(crate) fn blend_span(primitive: &Primitive<'_>, run: Run, tile: &mut Tile)
 }
 
 /// Keeps and then blends the pixels of a run, all of which a triangle covers.
-pub(crate) fn write_span(primitive: &Primitive<'_>, run: Run, tile: &mut Tile, undo: &mut UndoStack)
-    requires run { HasRun run tile.old }
+pub(crate) fn write_span(primitive: &Primitive<'_>, run: Run, canvas: &mut Canvas<'_>)
+    requires run { HasRun run (place_on canvas.old) }
     requires ready { IsReady primitive.now }
     requires covered { CoversRun primitive.now run }
-    requires room { HasRoom 1 (run.right - run.left) undo.old }
-    ensures { WritesRun 1 run (blended_by primitive.now) keep_each tile.old undo.old tile.new undo.new }
+    requires room { HasRoom 1 (run.right - run.left) canvas.old.undo.now }
+    ensures { WritesRun 1 run (blended_by primitive.now) keep_each canvas.old canvas.new }
 {
-    keep_span(run, tile, undo);
-    blend_span(primitive, run, tile);
+    canvas.keep_run(run);
+    blend_span(primitive, run, canvas.tile);
 }
 
 /// Draws an event in a state on a tile, and keeps the pixels that it overwrites in the top frame, which has been begun with
 /// room for them. The plan is the event's.
 pub fn draw(event: &Event, state: &Pipeline, plan: &Plan, tile: &mut Tile, undo: &mut UndoStack)
     requires made { tile.old.made ≡ true }
+    requires begun { undo.old.frame_left ≡ false }
     requires planned { IsPlan plan.now event.now state.now tile.old.place }
     requires room { HasRoom (event_spans event.now state.now tile.old.place) (event_pixels event.now state.now tile.old.place) undo.old }
     ensures { Paints (pixel_after event.now state.now) (kept_by event.now state.now) tile.old undo.old tile.new undo.new }
 {
     // a tile has a colour and a depth for each of its pixels, also where nothing is drawn
     let _place = tile.place();
-    match event {
-        Event::Clear(colour) => clear_tile(Clear::Colours(*colour), tile, undo),
-        Event::DepthClear(depth) => clear_tile(Clear::Depths(*depth), tile, undo),
-        Event::Draw(draw) => draw_triangles(draw, state, plan, tile, undo),
-        // State events and markers draw nothing.
-        _ => {}
+    let mut canvas = Canvas { tile, undo };
+    match event.effect() {
+        Effect::Clear(clear) => clear_tile(clear, &mut canvas),
+        Effect::Draw(draw) => draw_triangles(draw, state, plan, &mut canvas),
+        Effect::State | Effect::Nothing => {}
     }
 }
 
@@ -162,44 +145,41 @@ fn find_sources(primitive: &Primitive<'_>, x: u32, y: u32, out: &mut [Colour])
 }
 
 /// Keeps and then writes those of the pixels of row y at which a triangle was found at which it is drawn.
-fn draw_row(primitive: &Primitive<'_>, found: &Found, y: u32, tile: &mut Tile, undo: &mut UndoStack)
-    requires made { tile.old.made ≡ true }
+fn draw_row(primitive: &Primitive<'_>, found: &Found, y: u32, canvas: &mut Canvas<'_>)
     requires ready { IsReady primitive.now }
-    requires filled { IsTileImage tile.old }
-    requires found { IsFoundOn (triangle_of primitive.now) primitive.now.state tile.old.place found.now }
+    requires found { IsFoundOn (triangle_of primitive.now) primitive.now.state (place_on canvas.old) found.now }
     requires from_top { found.now.area.top ≤ y }
     requires to_bottom { y < found.now.area.bottom }
-    requires room { HasRoom (region_spans (is_tested_by primitive.now) (in_row (reached_by primitive.now) y) tile.old.place)
-        (pixels_in (in_row (reached_by primitive.now) y) tile.old.place) undo.old }
-    ensures { WritesRegion (region_spans (is_tested_by primitive.now) (in_row (reached_by primitive.now) y) tile.old.place)
-        (pixels_in (in_row (reached_by primitive.now) y) tile.old.place) (in_row (reached_by primitive.now) y)
-        (painted_by primitive.now) (kept_of primitive.now) tile.old undo.old tile.new undo.new }
+    requires room { HasRoom (region_spans (is_tested_by primitive.now) (in_row (reached_by primitive.now) y) (place_on canvas.old))
+        (pixels_in (in_row (reached_by primitive.now) y) (place_on canvas.old)) canvas.old.undo.now }
+    ensures { WritesRegion (region_spans (is_tested_by primitive.now) (in_row (reached_by primitive.now) y) (place_on canvas.old))
+        (pixels_in (in_row (reached_by primitive.now) y) (place_on canvas.old)) (in_row (reached_by primitive.now) y)
+        (painted_by primitive.now) (kept_of primitive.now) canvas.old canvas.new }
 {
     if let Some(run) = found.span(&primitive.corners, y) {
-        draw_span(primitive, run, tile, undo);
+        draw_span(primitive, run, canvas);
     }
 }
 
 /// The same for all pixels at which it was found, row after row, or at once where the triangle is drawn from side to side of the tile.
-fn draw_primitive(primitive: &Primitive<'_>, found: &Found, tile: &mut Tile, undo: &mut UndoStack)
-    requires made { tile.old.made ≡ true }
+fn draw_primitive(primitive: &Primitive<'_>, found: &Found, canvas: &mut Canvas<'_>)
     requires ready { IsReady primitive.now }
-    requires filled { IsTileImage tile.old }
-    requires found { IsFoundOn (triangle_of primitive.now) primitive.now.state tile.old.place found.now }
-    requires room { HasRoom (triangle_spans primitive.now.state tile.old.place (triangle_of primitive.now))
-        (triangle_pixels primitive.now.state tile.old.place (triangle_of primitive.now)) undo.old }
-    ensures { WritesRegion (triangle_spans primitive.now.state tile.old.place (triangle_of primitive.now))
-        (triangle_pixels primitive.now.state tile.old.place (triangle_of primitive.now)) (reached_by primitive.now)
-        (painted_by primitive.now) (kept_of primitive.now) tile.old undo.old tile.new undo.new }
+    requires found { IsFoundOn (triangle_of primitive.now) primitive.now.state (place_on canvas.old) found.now }
+    requires room { HasRoom (triangle_spans primitive.now.state (place_on canvas.old) (triangle_of primitive.now))
+        (triangle_pixels primitive.now.state (place_on canvas.old) (triangle_of primitive.now)) canvas.old.undo.now }
+    ensures { WritesRegion (triangle_spans primitive.now.state (place_on canvas.old) (triangle_of primitive.now))
+        (triangle_pixels primitive.now.state (place_on canvas.old) (triangle_of primitive.now)) (reached_by primitive.now)
+        (painted_by primitive.now) (kept_of primitive.now) canvas.old canvas.new }
 {
+    let place = canvas.tile.place();
     let mut y = found.area.top;
     while y < found.area.bottom {
-        let end = strip_end(primitive, found, y, tile.place());
+        let end = strip_end(primitive, found, y, place);
         if y < end {
-            draw_strip(primitive, y, end, tile, undo);
+            draw_strip(primitive, y, end, canvas);
             y = end;
         } else {
-            draw_row(primitive, found, y, tile, undo);
+            draw_row(primitive, found, y, canvas);
             y += 1;
         }
     }
@@ -207,20 +187,19 @@ fn draw_primitive(primitive: &Primitive<'_>, found: &Found, tile: &mut Tile, und
 
 /// Keeps and then writes the pixels at which the triangles of a draw are drawn, one triangle after the other: those that are planned, and
 /// then the rest.
-fn draw_triangles(draw: &Draw, state: &Pipeline, plan: &Plan, tile: &mut Tile, undo: &mut UndoStack)
-    requires made { tile.old.made ≡ true }
-    requires planned { ArePlanned draw.now state.now tile.old.place 0 plan.now.planned.items plan.now.rest }
-    requires room { HasRoom (sum_by (triangle_spans state.now tile.old.place) (triangles_of draw.now))
-        (sum_by (triangle_pixels state.now tile.old.place) (triangles_of draw.now)) undo.old }
-    ensures { Paints (pixel_after_triangles (triangles_of draw.now) draw.now.interp state.now)
-        (kept_by_triangles (triangles_of draw.now) draw.now.interp state.now) tile.old undo.old tile.new undo.new }
+fn draw_triangles(draw: &Draw, state: &Pipeline, plan: &Plan, canvas: &mut Canvas<'_>)
+    requires planned { ArePlanned draw.now state.now (place_on canvas.old) 0 plan.now.planned.items plan.now.rest }
+    requires room { HasRoom (sum_by (triangle_spans state.now (place_on canvas.old)) (triangles_of draw.now))
+        (sum_by (triangle_pixels state.now (place_on canvas.old)) (triangles_of draw.now)) canvas.old.undo.now }
+    ensures { PaintsOn (pixel_after_triangles (triangles_of draw.now) draw.now.interp state.now)
+        (kept_by_triangles (triangles_of draw.now) draw.now.interp state.now) canvas.old canvas.new }
 {
-    let place = tile.place();
+    let place = canvas.tile.place();
     let planned = plan.planned.as_slice();
     for i in 0..planned.len() {
         let Planned { triangle, found } = &planned[i];
         let primitive = Primitive::of(draw, *triangle, state);
-        draw_primitive(&primitive, found, tile, undo);
+        draw_primitive(&primitive, found, canvas);
     }
     let count = draw.triangles();
     if plan.rest == count {
@@ -231,6 +210,6 @@ fn draw_triangles(draw: &Draw, state: &Pipeline, plan: &Plan, tile: &mut Tile, u
     while let Some(next) = Planned::next(draw, from, state, window) {
         from = draw.next_listed(next.triangle + 1, window);
         let primitive = Primitive::of(draw, next.triangle, state);
-        draw_primitive(&primitive, &next.found, tile, undo);
+        draw_primitive(&primitive, &next.found, canvas);
     }
 }

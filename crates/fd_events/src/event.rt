@@ -5,6 +5,7 @@ ghost use Rattle.fd_events.specs.StateList.{is_state_event};
 ghost use Rattle.fd_memory.specs.Wanting.{Wanted};
 
 use crate::draw::Draw;
+use crate::effect::{Clear, Effect};
 use crate::label::Label;
 use crate::reach::Reach;
 use fd_blend::{BlendState, Colour};
@@ -35,8 +36,27 @@ pub enum Event {
 }
 
 impl Event {
+    ghost use Rattle.fd_events.specs.Effect.{HasEffect};
     ghost use Rattle.fd_events.specs.Far.{PassesBy};
     ghost use Rattle.fd_events.specs.Reach.{box_of, reach_of};
+
+    /// What the event does.
+    #[inline(always)]
+    pub fn effect(&self) -> Effect<'_>
+        ensures { HasEffect self.now result }
+    {
+        match self {
+            Event::SetRaster(_)
+            | Event::SetScissor(_)
+            | Event::SetBlend(_)
+            | Event::SetFactor(_)
+            | Event::SetDepth(_) => Effect::State,
+            Event::Clear(colour) => Effect::Clear(Clear::Colours(*colour)),
+            Event::DepthClear(depth) => Effect::Clear(Clear::Depths(*depth)),
+            Event::Draw(draw) => Effect::Draw(draw),
+            Event::Marker(_) => Effect::Nothing,
+        }
+    }
 
     /// The box of the pixels that the event can write on a target of this size.
     pub(crate) fn reach(&self, width: u32, height: u32) -> Reach
@@ -44,12 +64,10 @@ impl Event {
         requires height { height ≤ most_pixels }
         ensures { box_of result ≡ reach_of width height self.now }
     {
-        match self {
-            Event::Clear(_) => Reach::whole(width, height),
-            Event::DepthClear(_) => Reach::whole(width, height),
-            Event::Draw(draw) => Reach::clipped(draw.clip(draw.bounds()), width, height),
-            // State events and markers write nothing.
-            _ => Reach::nowhere(),
+        match self.effect() {
+            Effect::Clear(_) => Reach::whole(width, height),
+            Effect::Draw(draw) => Reach::clipped(draw.clip(draw.bounds()), width, height),
+            Effect::State | Effect::Nothing => Reach::nowhere(),
         }
     }
 
@@ -57,12 +75,10 @@ impl Event {
     pub(crate) fn passes_by(&self, window: Bounds) -> bool
         ensures { result ≡ true → (x y : ℕ) → IsTrue (is_within window x y) → PassesBy self.now x y }
     {
-        match self {
-            Event::Clear(_) => false,
-            Event::DepthClear(_) => false,
-            Event::Draw(draw) => !draw.bounds().meets(window),
-            // State events and markers write nothing.
-            _ => true,
+        match self.effect() {
+            Effect::Clear(_) => false,
+            Effect::Draw(draw) => !draw.bounds().meets(window),
+            Effect::State | Effect::Nothing => true,
         }
     }
 
@@ -70,14 +86,7 @@ impl Event {
     pub(crate) fn is_state_event(&self) -> bool
         ensures { result ≡ is_state_event self.now }
     {
-        match self {
-            Event::SetRaster(_)
-            | Event::SetScissor(_)
-            | Event::SetBlend(_)
-            | Event::SetFactor(_)
-            | Event::SetDepth(_) => true,
-            Event::Clear(_) | Event::DepthClear(_) | Event::Draw(_) | Event::Marker(_) => false,
-        }
+        matches!(self.effect(), Effect::State)
     }
 
     /// Computes the boxes of a draw's triangles and of their groups, and lists these in cells over a target of this size. On want of memory

@@ -10,7 +10,7 @@ use crate::entry::Entry;
 use crate::listed_triangle::ListedTriangle;
 use fd_blend::Colour;
 use fd_cover::{Bounds, Verdict};
-use fd_events::{Draw, Event, Pipeline};
+use fd_events::{Clear, Draw, Effect, Event, Pipeline};
 use std::alloc::AllocError;
 use std::marker::Model;
 
@@ -126,32 +126,31 @@ impl Gather {
         ensures few { OnOk result (length self.new.entries ≤ length self.old.entries + most_triangles) }
         ensures wanted { OnErr result Wanted }
     {
-        match event {
-            Event::Clear(colour) => self.enter(Entry {
+        match event.effect() {
+            Effect::Clear(Clear::Colours(colour)) => self.enter(Entry {
                 event: number,
                 triangle: None,
                 verdict: Verdict::Drawn,
-                source: *colour,
-                before: *colour,
-                after: *colour,
+                source: colour,
+                before: colour,
+                after: colour,
                 source_depth: 0,
                 depth_before: self.depth,
                 depth_after: self.depth,
             }),
-            Event::DepthClear(depth) => self.enter(Entry {
+            Effect::Clear(Clear::Depths(depth)) => self.enter(Entry {
                 event: number,
                 triangle: None,
                 verdict: Verdict::Drawn,
                 source: FRESH,
                 before: FRESH,
                 after: FRESH,
-                source_depth: *depth,
+                source_depth: depth,
                 depth_before: self.depth,
-                depth_after: *depth,
+                depth_after: depth,
             }),
-            Event::Draw(draw) => self.pass_draw(number, draw, state),
-            // State events and markers write nothing.
-            _ => Ok(()),
+            Effect::Draw(draw) => self.pass_draw(number, draw, state),
+            Effect::State | Effect::Nothing => Ok(()),
         }
     }
 }

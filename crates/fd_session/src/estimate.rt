@@ -9,7 +9,7 @@ ghost use Rattle.fd_session.specs.Near.{IsBefore};
 use arrayvec::ArrayVec;
 use fd_cover::Bounds;
 use fd_crew::MOST_WORKERS;
-use fd_events::{Draw, Event, EventTable, GROUP_LEN};
+use fd_events::{Draw, Effect, EventTable, GROUP_LEN};
 use fd_snap::MAX_SIDE;
 use fd_tile::TILE_SIDE;
 
@@ -188,12 +188,14 @@ impl<'a> Estimate<'a> {
         if pixels == 0 || !table.is_on(number) {
             return;
         }
-        match table.event(number) {
-            Event::Draw(draw) => {
+        match table.event(number).effect() {
+            Effect::Draw(draw) => {
                 self.add(&reached, tiles_of(pixels).saturating_mul(LOOK_WORK));
                 self.add_draw(draw);
             }
-            _ => self.add(&reached, pixels.saturating_mul(PIXEL_WORK)),
+            Effect::Clear(_) | Effect::State | Effect::Nothing => {
+                self.add(&reached, pixels.saturating_mul(PIXEL_WORK));
+            }
         }
     }
 

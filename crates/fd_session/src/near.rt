@@ -19,7 +19,7 @@ use crate::way::Way;
 use fd_cover::Bounds;
 use fd_crew::Free;
 use fd_device::Progress;
-use fd_events::{Event, EventTable, GROUP_LEN};
+use fd_events::{Effect, EventTable, GROUP_LEN};
 use fd_owner::Owner;
 use std::alloc::AllocError;
 use std::thread::Threads;
@@ -181,9 +181,9 @@ fn looks(table: &EventTable, number: u32) -> usize
     requires first { 1 ≤ number }
     requires last { number ≤ length table.now.events }
 {
-    let each = match table.event(number) {
-        Event::Draw(draw) => 1 + draw.triangles() / GROUP_LEN,
-        _ => 1,
+    let each = match table.event(number).effect() {
+        Effect::Draw(draw) => 1 + draw.triangles() / GROUP_LEN,
+        Effect::Clear(_) | Effect::State | Effect::Nothing => 1,
     };
     Area::round(table, table.reach(number))
         .tiles

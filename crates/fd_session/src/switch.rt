@@ -7,7 +7,7 @@ ghost use Rattle.fd_owner.specs.Shown.{IsInside};
 ghost use Rattle.fd_session.specs.Switch.{HoldsChanged, HoldsByState, HoldsSwitched, IsSpared};
 
 use fd_cover::Bounds;
-use fd_events::{Event, EventTable, Pipeline};
+use fd_events::{Effect, Event, EventTable, Pipeline};
 use fd_owner::Owner;
 
 /// A switch of an event, with the table as it is after it.
@@ -68,9 +68,9 @@ fn is_same(state: &Pipeline, other: &Pipeline) -> bool
 fn reach_by_state(event: &Event, reach: Bounds) -> Bounds
     ensures { (width height : ℕ) → HoldsWritten reach width height event.now → HoldsByState result width height event.now }
 {
-    match event {
-        Event::Draw(_) => reach,
-        _ => Bounds::empty(),
+    match event.effect() {
+        Effect::Draw(_) => reach,
+        Effect::Clear(_) | Effect::State | Effect::Nothing => Bounds::empty(),
     }
 }
 

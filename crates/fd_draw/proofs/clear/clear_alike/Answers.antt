@@ -3,11 +3,11 @@ use Rattle.fd_tile.specs.Tile.{Pixel, TileImage}
 use Rattle.fd_undo.specs.Frame.{KeptPixel, alike}
 use Rattle.fd_undo.specs.Undo.{without_room}
 use Rattle.fd_events.specs.declared.event.Event.{Event}
+use Rattle.fd_events.specs.Effect.{event_of_clear}
 use Rattle.fd_draw.specs.Demand.{event_pixels}
 use Rattle.fd_draw.proofs.Alike.{Paints-alike}
 use Rattle.fd_draw.proofs.Nothing.{clear_writes}
 use Rattle.fd_draw.proofs.clear.clear_alike.Goals as goal
-use Rattle.fd_draw.proofs.clear.clear_alike.Goals.{in-Clear, in-DepthClear}
 
 pub returns-clause-drawn : goal.returns-clause-drawn
 returns-clause-drawn c = λ _ state.
@@ -25,8 +25,5 @@ returns-clause-drawn c = λ _ state.
 pub returns-in_err-push_alike-clause-free : goal.returns-in_err-push_alike-clause-free
 returns-in_err-push_alike-clause-free c = λ state none.
     let place = c.args.tile.now.place in
-    let placed = c.place.ensures.filled.colours.placed in
-    elim c.match-event.branch [
-      | in-Clear w ↦ absurd (clear_writes place placed (ap (λ (e : Event). event_pixels e state place) (sym w.in-Clear.is) ∙ none))
-      | in-DepthClear w ↦ absurd (clear_writes place placed (ap (λ (e : Event). event_pixels e state place) (sym w.in-DepthClear.is) ∙ none))
-    ]
+    let is : c.args.event.now ≡ event_of_clear c.in-Clear.clear = rw c.in-Clear.is at c.effect.ensures in
+    absurd (clear_writes c.in-Clear.clear state place c.place.ensures.filled.colours.placed (ap (λ (e : Event). event_pixels e state place) (sym is) ∙ none))

@@ -16,6 +16,7 @@ returns-else-primitive c =
       | else-primitive-via-else-primitive w ↦ rw (w.if-primitive.false) refl
     ] in
     record {
+      lent = c.write_span.ensures.lent;
       painted = Paints-shallow c.args.primitive.now c.args.run c.requires.drawn off c.write_span.ensures.painted;
       spans = c.write_span.ensures.spans;
       pixels = c.write_span.ensures.pixels;

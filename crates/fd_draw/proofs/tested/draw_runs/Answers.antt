@@ -1,6 +1,7 @@
 use Rattle.std.proofs.Common.{◌+◌, ◌-◌, ◌/◌, ◌^◌, ◌≤◌, ◌∙◌, ap, arith}
-use Rattle.fd_undo.specs.Undo.{Undo}
+use Rattle.fd_draw.specs.declared.canvas.Canvas.{Canvas}
 use Rattle.std.proofs.lemmas.Bool.{eq-eqb, ne_eqb}
+use Rattle.fd_draw.proofs.Canvases.{lent_on}
 use Rattle.fd_draw.proofs.Masks.{lowest_set}
 use Rattle.fd_draw.proofs.PixelTests.{behind, drawn_alike, Paints-failed, Paints-next}
 use Rattle.fd_draw.proofs.tested.draw_runs.Goals as goal
@@ -28,18 +29,20 @@ loop-done-preserved c =
     let most : done + count.result ≤ run.right - run.left = omega (arith, count.ensures.most, inv.within, tested.size) in
     elim c.if-passed-eq1.branch [
       | then-passed-eq1 w ↦ record {
-        painted = rw (w.tile-is, w.undo-is) (Paints-next p run done count.result inv.painted w.draw_run.ensures.painted);
+        lent = rw w.canvas-is (lent_on inv.lent w.draw_run.ensures.lent);
+        painted = rw w.canvas-is (Paints-next p run done count.result inv.painted w.draw_run.ensures.painted);
         within = omega (arith, most, tested.size);
-        spans = omega (arith, ap (λ (v : Undo). v.spans_left) w.undo-is, w.draw_run.ensures.spans, inv.spans, count.ensures.least);
-        pixels = omega (arith, ap (λ (v : Undo). v.pixels_left) w.undo-is, w.draw_run.ensures.pixels, inv.pixels);
+        spans = omega (arith, ap (λ (v : Canvas). v.undo.now.spans_left) w.canvas-is, w.draw_run.ensures.spans, inv.spans, count.ensures.least);
+        pixels = omega (arith, ap (λ (v : Canvas). v.undo.now.pixels_left) w.canvas-is, w.draw_run.ensures.pixels, inv.pixels);
       }
       | else-passed-eq1 w ↦ record {
-        painted = rw (w.tile-is, w.undo-is) (Paints-next p run done count.result inv.painted
+        lent = rw w.canvas-is inv.lent;
+        painted = rw w.canvas-is (Paints-next p run done count.result inv.painted
             (Paints-failed p (behind run done count.result) inv.painted.filled inv.painted.begun
             (λ column low high. drawn_alike p run done count.result inv.painted passed c.requires.run most tested.passed count.ensures.same column low high
             ∙ lowest_set (passed / 2 ^ done) ∙ ne_eqb _ 1 w.if-passed-eq1.false)));
         within = omega (arith, most, tested.size);
-        spans = omega (arith, ap (λ (v : Undo). v.spans_left) w.undo-is, inv.spans);
-        pixels = omega (arith, ap (λ (v : Undo). v.pixels_left) w.undo-is, inv.pixels);
+        spans = omega (arith, ap (λ (v : Canvas). v.undo.now.spans_left) w.canvas-is, inv.spans);
+        pixels = omega (arith, ap (λ (v : Canvas). v.undo.now.pixels_left) w.canvas-is, inv.pixels);
       }
     ]

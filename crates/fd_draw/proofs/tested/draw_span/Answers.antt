@@ -12,6 +12,7 @@ at_least_one false run some = omega arith
 
 pub returns-then-not-primitive : goal.returns-then-not-primitive
 returns-then-not-primitive c = record {
+  lent = c.write_span.ensures.lent;
   painted = Paints-untested c.args.primitive.now c.args.run
       (draws_all c.args.primitive.now c.args.run c.requires.ready c.if-not-primitive.true c.requires.reached) c.requires.reached
       c.write_span.ensures.painted;

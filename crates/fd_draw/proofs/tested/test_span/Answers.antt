@@ -35,7 +35,7 @@ passed c column low high =
     let is = c.requires.run in
     let y = c.args.run.y in
     let k = column - c.args.run.left in
-    let wide = length-depth_row_of t y is.filled is.crossed in
+    let wide = length-depth_row_of t y c.place-place.ensures.filled is.crossed in
     let long = part_len c.place-place.ensures.value is c.depth_row.result.now (ap length c.depth_row.ensures ∙ wide) in
     let stored = part_at c.place-place.ensures.value is c.depth_row.result.now 0 column low high
     ∙ ap (λ r. get_or r (column - t.place.left) 0) c.depth_row.ensures

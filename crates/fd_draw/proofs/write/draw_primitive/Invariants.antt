@@ -8,8 +8,8 @@ abbrev pub invariant-loop-y : goal.invariant-loop-y
 invariant-loop-y l = record {
   from_top : l.found.area.top ≤ l.y;
   to_bottom : l.y ≤ l.found.area.bottom;
-  done : AreRowsDone (is_tested_by l.primitive) (reached_by l.primitive) (painted_by l.primitive) (kept_of l.primitive) l.found.area.bottom l.y
-      l.initial.tile l.initial.undo l.tile l.undo;
+  done : AreRowsDone (is_tested_by l.primitive) (reached_by l.primitive) (painted_by l.primitive) (kept_of l.primitive) l.found.area.bottom l.y l.fn.canvas
+      l.canvas;
 }
 
 abbrev pub decreases-loop-y : goal.decreases-loop-y
