@@ -1,5 +1,5 @@
 -- Working. How much the next event writes on a place, and what it makes of a tile.
-use Rattle.std.specs.Prelude.{◌≡◌, ℕ, suc, ◌+◌, [], ◌∷◌, ◌++◌, Option, Some, None, true, false}
+use Rattle.std.specs.Prelude.{◌≡◌, ℕ, suc, ◌+◌, ◌^◌, ◌<◌, [], ◌∷◌, ◌++◌, length, Option, Some, None, Result, IsOk, OnOk, OnErr, true, false}
 use Rattle.fd_tile.specs.declared.place.Place.{Place}
 use Rattle.fd_tile.specs.Tile.{TileImage}
 use Rattle.fd_undo.specs.Frame.{IsAlike, top}
@@ -10,6 +10,7 @@ use Rattle.fd_events.specs.Image.{pixel_after, kept_by}
 use Rattle.fd_events.specs.Table.{Table, active_event, event_at, flag_at, state_at}
 use Rattle.fd_draw.specs.Demand.{event_spans, event_pixels}
 use Rattle.fd_draw.specs.Paints.{Paints}
+use Rattle.fd_memory.specs.Wanting.{Wanted}
 
 -- the spans that an event writes, which is none where it is missing or switched off
 abbrev pub spans_of : Option Event → Pipeline → Place → ℕ
@@ -49,3 +50,11 @@ pub record IsPast (event : Event) (state : Pipeline) (t : TileImage) (u : Undo) 
   pub painted : Paints (pixel_after event state) (kept_by event state) (record t { made = t'.made })
       (without_room u.opens_fresh (u.frames ++ [] ∷ [])) t' u'
   pub alike : t'.made ≡ false → IsAlike t.place (top u'.frames)
+
+-- what a step over an event comes to: it is drawn, or refused for want of memory, and then nothing changed; what writes nothing isn't refused
+pub record StepsOver (event : Event) (state : Pipeline) (t : TileImage) (u : Undo) {A E : Type 0} (result : Result A E) (t' : TileImage) (u' : Undo)
+    : Type 0 where
+  pub drawn : OnOk result (IsPast event state t u t' u')
+  pub same : OnErr result (IsSame t u t' u')
+  pub free : event_spans event state t.place ≡ 0 → event_pixels event state t.place ≡ 0 → length u.frames + 1 < 2 ^ 64 → IsOk result
+  pub wanted : OnErr result (length u.frames < 4294967295 → Wanted)

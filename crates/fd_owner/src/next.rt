@@ -1,10 +1,9 @@
 //! The next event of an owner.
 ghost use Rattle.std.specs.Prelude.{◌≡◌, ℕ, ◌+◌, ◌^◌, ◌<◌, ◌≤◌, length, true, IsTrue, IfNone, IfSome, IsOk, OnOk, OnErr};
 ghost use Rattle.fd_tile.specs.Place.{IsTilePlace};
-ghost use Rattle.fd_draw.specs.Demand.{event_spans, event_pixels};
 ghost use Rattle.fd_draw.specs.Plan.{MayBeginAt};
 ghost use Rattle.fd_owner.specs.Shown.{IsInside};
-ghost use Rattle.fd_owner.specs.Step.{IsNext, IsPast, IsSame};
+ghost use Rattle.fd_owner.specs.Step.{IsNext, IsSame, StepsOver};
 ghost use Rattle.fd_owner.specs.Untouched.{IsUntouched, AreUntouched};
 ghost use Rattle.fd_memory.specs.Wanting.{Wanted};
 
@@ -49,11 +48,7 @@ impl<'a> Next<'a> {
     /// Draws it on a tile, and keeps what it overwrites in a frame more. A refusal changes no pixel.
     pub(crate) fn draw(&self, tile: &mut Tile, undo: &mut UndoStack) -> Result<(), Full>
         requires { MayBeginAt self.now.event.now tile.old.place self.now.first }
-        ensures drawn { OnOk result (IsPast self.now.event.now self.now.state.now tile.old undo.old tile.new undo.new) }
-        ensures same { OnErr result (IsSame tile.old undo.old tile.new undo.new) }
-        ensures free { event_spans self.now.event.now self.now.state.now tile.old.place ≡ 0
-            → event_pixels self.now.event.now self.now.state.now tile.old.place ≡ 0 → length undo.old.frames + 1 < 2 ^ 64 → IsOk result }
-        ensures wanted { OnErr result (length undo.old.frames < 4294967295 → Wanted) }
+        ensures { StepsOver self.now.event.now self.now.state.now tile.old undo.old result tile.new undo.new }
     {
         if fd_draw::clear_alike(self.event, tile, undo)? {
             return Ok(());
@@ -65,11 +60,7 @@ impl<'a> Next<'a> {
     #[inline(never)]
     fn draw_planned(&self, tile: &mut Tile, undo: &mut UndoStack) -> Result<(), Full>
         requires { MayBeginAt self.now.event.now tile.old.place self.now.first }
-        ensures drawn { OnOk result (IsPast self.now.event.now self.now.state.now tile.old undo.old tile.new undo.new) }
-        ensures same { OnErr result (IsSame tile.old undo.old tile.new undo.new) }
-        ensures free { event_spans self.now.event.now self.now.state.now tile.old.place ≡ 0
-            → event_pixels self.now.event.now self.now.state.now tile.old.place ≡ 0 → length undo.old.frames + 1 < 2 ^ 64 → IsOk result }
-        ensures wanted { OnErr result (length undo.old.frames < 4294967295 → Wanted) }
+        ensures { StepsOver self.now.event.now self.now.state.now tile.old undo.old result tile.new undo.new }
     {
         let mut plan = Plan::empty();
         plan.fill(self.event, self.state, tile.place(), self.first);

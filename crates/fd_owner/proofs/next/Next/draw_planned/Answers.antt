@@ -10,8 +10,8 @@ use Rattle.fd_owner.proofs.Undemanded.{Paints-undemanded, Paints-over}
 use Rattle.fd_owner.proofs.next.Next.draw_planned.Goals as goal
 
 -- nothing is written
-pub returns-else-plan-gt0-clause-drawn : goal.returns-else-plan-gt0-clause-drawn
-returns-else-plan-gt0-clause-drawn c =
+pub returns-else-plan-gt0 : goal.returns-else-plan-gt0
+returns-else-plan-gt0 c =
     let event = c.args.self.now.event.now in
     let state = c.args.self.now.state.now in
     let same = c.in_ok-make_room.ensures.same in
@@ -26,9 +26,14 @@ returns-else-plan-gt0-clause-drawn c =
     let painted = Paints-undemanded event state c.make_room.new.tile c.begin.new.self filled (ap (λ (u : Undo). u.frame_left) c.begin.ensures)
     (ap (event_pixels event state) (sym at) ∙ none) in
     record {
-      made = same.made;
-      painted = subst (λ (t : TileImage). Paints (pixel_after event state) (kept_by event state) t
-          (without_room c.args.undo.now.opens_fresh (c.args.undo.now.frames ++ [] ∷ [])) c.make_room.new.tile c.begin.new.self)
-          same.tile (Paints-over (sym frames) (sym opening) painted);
-      alike = λ _. inl (ap top frames ∙ top-push c.args.undo.now.frames []);
+      drawn = record {
+        made = same.made;
+        painted = subst (λ (t : TileImage). Paints (pixel_after event state) (kept_by event state) t
+            (without_room c.args.undo.now.opens_fresh (c.args.undo.now.frames ++ [] ∷ [])) c.make_room.new.tile c.begin.new.self)
+            same.tile (Paints-over (sym frames) (sym opening) painted);
+        alike = λ _. inl (ap top frames ∙ top-push c.args.undo.now.frames []);
+      };
+      same = tt;
+      free = λ _ _ _. grind arith;
+      wanted = tt;
     }
