@@ -37,8 +37,9 @@ pub fn clear_alike(event: &Event, tile: &mut Tile, undo: &mut UndoStack) -> Resu
     ensures free { (state : Pipeline) → event_pixels event.now state tile.old.place ≡ 0 → IsOk result }
     ensures wanted { OnErr result (length undo.old.frames < 4294967295 → Wanted) }
 {
-    let Effect::Clear(clear) = event.effect() else {
-        return Ok(false);
+    let clear = match event.effect() {
+        Effect::Clear(clear) => clear,
+        Effect::Draw(_) | Effect::State | Effect::Nothing => return Ok(false),
     };
     let (Some(colour), Some(depth)) = (tile.flat_colour(), tile.flat_depth()) else {
         return Ok(false);
