@@ -18,6 +18,11 @@ pub record Filled : Type 0 where
   pub colours_left : ℕ
   pub depths_left : ℕ
 
+-- full blocks, oldest first, and for how many more there is room
+pub record Full : Type 0 where
+  pub items : List Filled
+  pub room : ℕ
+
 abbrev pub no_frame : KeptFrame
 no_frame = record { number = 0; kept = [] }
 

@@ -127,6 +127,11 @@ impl Block {
         }
     }
 
+    /// For how many colours it has room, those that it holds among them.
+    pub(crate) fn room(&self) -> usize {
+        self.lists.room()
+    }
+
     /// The number of the newest frame.
     #[tactic(auto, using(crate::proofs::BlockLemmas::mark_steps))]
     pub(crate) fn newest_number(&self) -> usize
@@ -242,6 +247,14 @@ impl Block {
     {
         let mark = take_last(&mut self.marks);
         self.lists.drop_from(mark.cut())
+    }
+
+    /// Drops all frames, unread. Their room stays.
+    pub(crate) fn drop_all(&mut self)
+        ensures { self.new.frames ≡ [] }
+    {
+        self.marks.truncate(0);
+        self.lists.drop_all();
     }
 
     /// The number of the oldest frame from this number on that is seen to keep a whole place.

@@ -4,6 +4,7 @@
 pub use stack::{Full, UndoStack};
 
 mod block;
+mod blocks;
 mod kept;
 mod restore;
 mod room;

@@ -187,6 +187,20 @@ impl SpanLists {
         }
     }
 
+    /// For how many colours there is room, those that are listed among them.
+    pub(crate) fn room(&self) -> usize {
+        self.colours.capacity()
+    }
+
+    /// Drops all spans, unread. Their room stays.
+    pub(crate) fn drop_all(&mut self)
+        ensures { (self.new.spans ≡ []) × (self.new.colours ≡ []) × (self.new.depths ≡ []) }
+    {
+        self.spans.truncate(0);
+        self.colours.truncate(0);
+        self.depths.truncate(0);
+    }
+
     /// Drops the spans behind a place, unread, and says how many pixels they had.
     #[tactic(auto, using(crate::proofs::RowLemmas::lists_drop_from_steps))]
     pub(crate) fn drop_from(&mut self, first: Cut) -> usize

@@ -226,7 +226,6 @@ fn a_frame_without_pixels_stores_nothing(rt: HostRuntime) -> Result<(), Fail> {
     assert_eq!(rt; undo.frames(), 1);
     let held = undo.last.held();
     assert_eq!(rt; (held.frames, held.spans, held.colours), (0, 0, 0));
-    assert!(rt; undo.full.capacity() == 0);
     Ok(())
 }
 
@@ -236,7 +235,6 @@ fn frames_that_are_forgotten_keep_nothing(rt: HostRuntime) -> Result<(), Fail> {
     undo.forget();
     expect_counts(&rt, &undo, 0, 2)?;
     assert!(rt; undo.last.is_empty());
-    assert!(rt; undo.full.capacity() == 0);
     begin(&mut undo, 1, 1)?;
     keep(&mut undo, 1, 1, &[FRESH], &[DEEP])?;
     expect_kept(&rt, &undo, 1, (0, 0, 0), None);
@@ -405,12 +403,11 @@ fn with_two_blocks(alloc: Global) -> Result<UndoStack, Fail> {
 #[test]
 fn blocks_are_given_back(rt: HostRuntime) -> Result<(), Fail> {
     let mut undo = with_two_blocks(rt.alloc())?;
-    assert_eq!(rt; undo.full.len(), 1);
+    assert_eq!(rt; undo.full.as_slice().len(), 1);
     expect_kept(&rt, &undo, 0, (0, 0, 0), Some((FRESH, DEEP)));
     expect_kept(&rt, &undo, 1, (1, 1, 0), Some((RED, 7)));
     expect_kept(&rt, &undo, 1, (0, 0, 0), None);
     undo.forget();
-    assert!(rt; undo.full.capacity() == 0);
     assert!(rt; !undo.last.takes(Room::needed(1, 1)));
     Ok(())
 }
@@ -423,7 +420,7 @@ fn a_block_without_frames_is_given_back(rt: HostRuntime) -> Result<(), Fail> {
     small.begin(1, 1000)?;
     small.keep(1, 1, &[RED], &[7])?;
     small.undo_top()?;
-    assert!(rt; small.undo.full.is_empty());
+    assert!(rt; small.undo.full.as_slice().is_empty());
     assert_eq!(rt; small.undo.last.held().frames, 1);
     small.undo_top()?;
     assert!(rt; !small.undo.last.takes(Room::needed(1, 1)));
@@ -439,9 +436,9 @@ fn room_that_is_left_is_used(rt: HostRuntime) -> Result<(), Fail> {
     begin(&mut undo, 1, 64)?;
     keep(&mut undo, 0, 0, &[RED, FRESH], &[7, 8])?;
     undo.reserve(1, 126)?;
-    assert!(rt; undo.full.is_empty());
+    assert!(rt; undo.full.as_slice().is_empty());
     undo.reserve(1, 127)?;
-    assert_eq!(rt; undo.full.len(), 1);
+    assert_eq!(rt; undo.full.as_slice().len(), 1);
     Ok(())
 }
 
@@ -454,7 +451,7 @@ fn a_whole_place_is_put_back(rt: HostRuntime) -> Result<(), Fail> {
     small.push_alike(RED, DEEP)?;
     small.tile.fill_depths(7);
     expect_counts(&rt, &small.undo, 8, 2)?;
-    assert_eq!(rt; small.undo.full.len(), 1);
+    assert_eq!(rt; small.undo.full.as_slice().len(), 1);
     assert_eq!(rt; small.undo.last.held().spans, 1);
     assert_eq!(rt; small.undo.last.held().colours, 1);
     assert_eq!(rt; small.undo.last.held().depths, 0);
@@ -529,11 +526,25 @@ fn a_cleared_stack_is_as_a_new_one(rt: HostRuntime) -> Result<(), Fail> {
     Ok(())
 }
 
+/// What half of the memory has room for stays for the next frames.
+#[test]
+fn a_cleared_stack_keeps_its_oldest_block(rt: HostRuntime) -> Result<(), Fail> {
+    let mut undo = UndoStack::new(rt.alloc());
+    begin(&mut undo, 1, 3)?;
+    keep(&mut undo, 0, 0, &[RED, FRESH, RED], &[DEEP, 7, DEEP])?;
+    begin(&mut undo, 1, 200)?;
+    keep(&mut undo, 0, 0, &[RED], &[DEEP])?;
+    undo.clear();
+    expect_counts(&rt, &undo, 0, 0)?;
+    assert!(rt; undo.last.takes(Room::needed(1, 67)));
+    assert!(rt; !undo.last.takes(Room::needed(1, 68)));
+    Ok(())
+}
+
 #[test]
 fn few_spans_take_no_memory(rt: HostRuntime) -> Result<(), Fail> {
     let mut undo = UndoStack::new(rt.alloc());
     undo.reserve(8, 0)?;
-    assert!(rt; undo.full.capacity() == 0);
     assert!(rt; undo.last.takes(Room::needed(8, 0)));
     assert!(rt; !undo.last.takes(Room::needed(9, 0)));
     Ok(())
