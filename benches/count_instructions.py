@@ -39,11 +39,25 @@ class Scene:
     count: int
     before: str = ""
     half: bytes | None = None
+    # whether the run is stopped behind its last reply, and gives no memory back at an end of its own
+    is_stopped: bool = False
 
 
 def to_the_end(capture, unit, count):
     events = capture.count(b'"kind"')
     return Scene(capture, f"goto {events}\n", unit, count)
+
+
+def to_the_start(capture, tiles):
+    """A move from the end back to the start, of so many tiles."""
+    events = capture.count(b'"kind"')
+    return Scene(capture, "goto 0\n", "tile", tiles, f"goto {events}\n", is_stopped=True)
+
+
+def once_more(capture, unit, count):
+    """The same way to the end a second time."""
+    events = capture.count(b'"kind"')
+    return Scene(capture, f"goto {events}\n", unit, count, f"goto {events}\ngoto 0\n", is_stopped=True)
 
 
 def picture(side, colour):
@@ -141,6 +155,12 @@ SCENES = {
     "small": lambda: to_the_end(scenes.small(512, 512, 4000, True).capture(25), "triangle", 4000),
     "small_far_apart": lambda: to_the_end(scenes.small(2048, 2048, 32000, True).capture(8), "triangle", 32000),
     "largest_target": lambda: to_the_end(scenes.small(16384, 16384, 16384, True).capture(), "draw", 16384),
+    "small_to_the_start": lambda: to_the_start(scenes.small(512, 512, 4000, True).capture(25), 256),
+    "small_once_more": lambda: once_more(scenes.small(512, 512, 4000, True).capture(25), "triangle", 4000),
+    "linear_to_the_start": lambda: to_the_start(scenes.large(512, 512, 10, "linear").capture(), 256),
+    "linear_once_more": lambda: once_more(
+        scenes.large(512, 512, 10, "linear").capture(), "pixel", 10 * 512 * 512
+    ),
     "culled": lambda: to_the_end(undrawn(2048, 1000, CULLED), "draw", 1000),
     "empty_scissor": lambda: to_the_end(undrawn(2048, 1000, SHUT), "draw", 1000),
     "never": lambda: to_the_end(undrawn(2048, 1000, NEVER, 2), "draw", 1000),
@@ -149,19 +169,29 @@ SCENES = {
 }
 
 
-def counted(program, path, commands):
+def counted(program, path, commands, is_stopped):
     """The instructions of a run."""
     words = ["valgrind", "--tool=callgrind", "--callgrind-out-file=/dev/null", program, "run", "--workers", "1", path]
-    ran = subprocess.run(words, input=f"{commands}quit\n", capture_output=True, text=True, timeout=SECONDS, check=True)
-    return int(COLLECTED.search(ran.stderr)[1])
+    lines = commands if is_stopped else f"{commands}quit\n"
+    with subprocess.Popen(
+        words, stdin=subprocess.PIPE, stdout=subprocess.PIPE, stderr=subprocess.PIPE, text=True
+    ) as run:
+        run.stdin.write(lines)
+        run.stdin.flush()
+        for _ in range(lines.count("\n")):
+            run.stdout.readline()
+        if is_stopped:
+            run.terminate()
+        told = run.communicate(timeout=SECONDS)[1]
+    return int(COLLECTED.search(told)[1])
 
 
 def measured(program, scene, path):
     """The instructions of what is counted, less those of what isn't."""
     path.write_bytes(scene.capture)
-    everything = counted(program, path, scene.before + scene.commands)
+    everything = counted(program, path, scene.before + scene.commands, scene.is_stopped)
     path.write_bytes(scene.capture if scene.half is None else scene.half)
-    return everything - counted(program, path, scene.before)
+    return everything - counted(program, path, scene.before, scene.is_stopped)
 
 
 def main():

@@ -105,6 +105,20 @@ def entries(capture):
     return frame.replay(len(frame.events), frame.width // 2 + 1, frame.height // 2)[1]
 
 
+# Answers each line, and counts 2 more where it comes to its end
+FAKE_VALGRIND = """#!/usr/bin/env python3
+import signal, sys
+
+def stopped(*_):
+    sys.exit("Collected : 7")
+
+signal.signal(signal.SIGTERM, stopped)
+for line in sys.stdin:
+    print(line, end="", flush=True)
+sys.exit("Collected : 9")
+"""
+
+
 class CountedScenes(unittest.TestCase):
     def test_states_let_draw_nothing(self):
         for states, version, verdict in [
@@ -156,10 +170,29 @@ class CountedScenes(unittest.TestCase):
             self.assertEqual((sizes, scene.count, scene.commands), ([2000, 1000], 1000, ""))
         # a program that takes an instruction for each byte that it reads
         with tempfile.TemporaryDirectory() as folder, mock.patch.object(
-            count_instructions, "counted", lambda program, path, commands: path.stat().st_size
+            count_instructions, "counted", lambda program, path, commands, is_stopped: path.stat().st_size
         ):
             read = count_instructions.measured("a program", scene, pathlib.Path(folder) / "scene.json")
         self.assertEqual(read, len(scene.capture) - len(scene.half))
+
+    def test_a_way_back_and_the_next_one_end_with_their_replies(self):
+        for name, before, command in [
+            ("to_the_start", "goto {}\n", "goto 0\n"),
+            ("once_more", "goto {}\ngoto 0\n", "goto {}\n"),
+        ]:
+            scene = count_instructions.SCENES[f"small_{name}"]()
+            end = len(json.loads(scene.capture)["events"])
+            self.assertEqual((scene.before, scene.commands), (before.format(end), command.format(end)))
+            self.assertTrue(scene.is_stopped)
+
+    def test_a_run_is_stopped_behind_its_last_reply(self):
+        with tempfile.TemporaryDirectory() as folder:
+            file = pathlib.Path(folder) / "valgrind"
+            file.write_text(FAKE_VALGRIND)
+            file.chmod(0o755)
+            with mock.patch.dict(os.environ, PATH=f"{folder}:{os.environ['PATH']}"):
+                found = [count_instructions.counted("a program", file, "goto 1\n", it) for it in (True, False)]
+        self.assertEqual(found, [7, 9])
 
     def test_a_scene_ends_at_its_last_event(self):
         scene = count_instructions.SCENES["small"]()
