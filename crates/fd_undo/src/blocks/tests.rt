@@ -65,3 +65,17 @@ fn a_block_from_before_has_room(rt: HostRuntime) -> Result<(), Fail> {
     assert!(rt; blocks.take_spare(Room::needed(1, 1)).is_none());
     Ok(())
 }
+
+/// A list without blocks takes no memory, also where it had some.
+#[test]
+fn seats_go_with_the_last_block(rt: HostRuntime) -> Result<(), Fail> {
+    let mut blocks = Blocks::new(rt.alloc());
+    assert_eq!(rt; blocks.seats.capacity(), 0);
+    blocks.make_room()?;
+    blocks.push(block(rt.alloc(), 64)?);
+    assert!(rt; blocks.pop().is_some());
+    assert!(rt; blocks.seats.capacity() > 0);
+    assert!(rt; blocks.pop().is_none());
+    assert_eq!(rt; blocks.seats.capacity(), 0);
+    Ok(())
+}
