@@ -13,6 +13,7 @@ import base64
 import os
 import pathlib
 import re
+import signal
 import subprocess
 import tempfile
 from dataclasses import dataclass
@@ -183,6 +184,8 @@ def counted(program, path, commands, is_stopped):
         if is_stopped:
             run.terminate()
         told = run.communicate(timeout=SECONDS)[1]
+    if run.returncode != (-signal.SIGTERM if is_stopped else 0):
+        raise subprocess.CalledProcessError(run.returncode, words, stderr=told)
     return int(COLLECTED.search(told)[1])
 
 

@@ -109,13 +109,15 @@ def entries(capture):
 FAKE_VALGRIND = """#!/usr/bin/env python3
 import signal, sys
 
-def stopped(*_):
-    sys.exit("Collected : 7")
+def stopped(number, _):
+    print("Collected : 7", file=sys.stderr, flush=True)
+    signal.signal(number, signal.SIG_DFL)
+    signal.raise_signal(number)
 
 signal.signal(signal.SIGTERM, stopped)
 for line in sys.stdin:
     print(line, end="", flush=True)
-sys.exit("Collected : 9")
+print("Collected : 9", file=sys.stderr)
 """
 
 
