@@ -10,4 +10,5 @@ pub mod VersionOnes
 pub mod ReciprocalLemmas
 pub mod GradientLemmas
 pub mod WalkLemmas
+pub mod Words
 pub mod ScanlinesLemmas

@@ -4,10 +4,11 @@ use Rattle.std.proofs.Common.{arith}
 use Rattle.std.proofs.lemmas.Bool.{cases_lt}
 use Rattle.std.proofs.lemmas.List.{ext_get_or, length-replicate, get_or-replicate}
 use Rattle.std.proofs.lemmas.List.FromFn.{get_or-map-range_with_len, length-map-range_with_len}
-use Rattle.std.specs.List.{range_with_len}
+use Rattle.std.specs.List.{range_with_len, slice_index}
 use Rattle.fd_blend.specs.declared.channel.Colour.{Colour}
 use Rattle.std.proofs.Math.Nat.{mul-le-mul_left}
 use Rattle.fd_cover.specs.declared.triangle.Tri.{Tri}
+use Rattle.fd_cover.specs.ColourWalk.{top_colour}
 use Rattle.fd_cover.specs.Covers.{covers}
 use Rattle.fd_cover.specs.declared.shading.Interp.TheVariants.{Linear}
 use Rattle.fd_cover.specs.Shade.{area_of, weight_a, weight_b, weight_c, interpolated, shaded}
@@ -211,3 +212,37 @@ module _ (t : Tri) (depths : List ℕ) (z x y n : ℕ) (level : (vertex_depth de
   level_columns =
       columns_from 0 (λ column. depth_at t depths column y) x n (replicate n z) (length-replicate n z)
       (λ i d low. get_or-replicate n i z d low ∙ sym (level_at (x + i) (omega arith) (omega (arith, low))))
+
+-- ---- four channels at once
+
+-- each channel's walk stands at column x + i
+pub record AreWalks (t : Tri) (x y : ℕ) (a b c : Colour) (i : ℕ) (accumulators steps : List ℕ) : Type 0 where
+  pub red : IsWalk (2 ^ 56) t x y a.r b.r c.r i (slice_index accumulators 0) (slice_index steps 0)
+  pub green : IsWalk (2 ^ 56) t x y a.g b.g c.g i (slice_index accumulators 1) (slice_index steps 1)
+  pub blue : IsWalk (2 ^ 56) t x y a.b b.b c.b i (slice_index accumulators 2) (slice_index steps 2)
+  pub alpha : IsWalk (2 ^ 56) t x y a.a b.a c.a i (slice_index accumulators 3) (slice_index steps 3)
+
+-- three channels are bytes
+abbrev pub AreBytes : ℕ → ℕ → ℕ → Type 0
+AreBytes a b c = (a < 256) × ((b < 256) × (c < 256))
+
+module _ (t : Tri) (x y : ℕ) (a b c : Colour) (i : ℕ) (accumulators steps : List ℕ) (along : IsAlong (2 ^ 56) t x y i)
+    (walks : AreWalks t x y a b c i accumulators steps) where
+  -- the highest bytes are the colour there
+  pub walks_shade : top_colour accumulators ≡ shaded t Linear a b c (x + i) y
+  walks_shade = shaded_by t a b c (x + i) y _ _ _ _
+      (walk_value (2 ^ 56) t x y a.r b.r c.r i _ _ along walks.red)
+      (walk_value (2 ^ 56) t x y a.g b.g c.g i _ _ along walks.green)
+      (walk_value (2 ^ 56) t x y a.b b.b c.b i _ _ along walks.blue)
+      (walk_value (2 ^ 56) t x y a.a b.a c.a i _ _ along walks.alpha)
+
+  -- the next column
+  pub walks_on : (next : List ℕ) → ((k : ℕ) → k < 4 → slice_index next k ≡ (slice_index accumulators k + slice_index steps k) % 2 ^ 64)
+      → AreBytes a.r b.r c.r → AreBytes a.g b.g c.g → AreBytes a.b b.b c.b → AreBytes a.a b.a c.a → IsAlong (2 ^ 56) t x y (i + 1)
+      → AreWalks t x y a b c (i + 1) next steps
+  walks_on next is red green blue alpha along_next = record {
+    red = rw (is 0 (omega arith)) (walk_on (2 ^ 56) 256 t x y a.r b.r c.r i _ _ refl red.0 red.1.0 red.1.1 along along_next walks.red);
+    green = rw (is 1 (omega arith)) (walk_on (2 ^ 56) 256 t x y a.g b.g c.g i _ _ refl green.0 green.1.0 green.1.1 along along_next walks.green);
+    blue = rw (is 2 (omega arith)) (walk_on (2 ^ 56) 256 t x y a.b b.b c.b i _ _ refl blue.0 blue.1.0 blue.1.1 along along_next walks.blue);
+    alpha = rw (is 3 (omega arith)) (walk_on (2 ^ 56) 256 t x y a.a b.a c.a i _ _ refl alpha.0 alpha.1.0 alpha.1.1 along along_next walks.alpha);
+  }

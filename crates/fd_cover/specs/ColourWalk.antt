@@ -1,5 +1,5 @@
 -- Working. How the colours of a linear triangle are walked along its rows.
-use Rattle.std.specs.Prelude.{◌≡◌, ◌*◌, ◌^◌, ◌≤◌, List, slice_index}
+use Rattle.std.specs.Prelude.{◌≡◌, ℕ, ◌*◌, ◌/◌, ◌^◌, ◌≤◌, List, slice_index}
 use Rattle.fd_blend.specs.declared.channel.Colour.{Colour}
 use Rattle.fd_cover.specs.declared.triangle.Tri.{Tri}
 use Rattle.fd_cover.specs.declared.colour_walk.ColourWalk.{ColourWalk}
@@ -14,3 +14,12 @@ pub record IsColourWalk (t : Tri) (colours : List Colour) (walk : ColourWalk) : 
   pub green : IsStep (2 ^ 56) t (colour_of colours 0).g (colour_of colours 1).g (colour_of colours 2).g (slice_index walk.steps 1)
   pub blue : IsStep (2 ^ 56) t (colour_of colours 0).b (colour_of colours 1).b (colour_of colours 2).b (slice_index walk.steps 2)
   pub alpha : IsStep (2 ^ 56) t (colour_of colours 0).a (colour_of colours 1).a (colour_of colours 2).a (slice_index walk.steps 3)
+
+-- the colour of the highest bytes of four elements of 64 bits
+abbrev pub top_colour : List ℕ → Colour
+top_colour elements = record {
+  r = slice_index elements 0 / 2 ^ 56;
+  g = slice_index elements 1 / 2 ^ 56;
+  b = slice_index elements 2 / 2 ^ 56;
+  a = slice_index elements 3 / 2 ^ 56;
+}

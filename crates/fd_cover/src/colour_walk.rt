@@ -10,7 +10,7 @@ use crate::gradient::{Gradient, LIFT};
 use crate::reciprocal::Reciprocal;
 use crate::shading::{Interp, Weights, shade};
 use crate::triangle::Tri;
-use crate::vectors::{colour_of, moved};
+use crate::vectors::{colours_of, moved};
 use fd_blend::Colour;
 use std::simd::prelude::*;
 
@@ -53,7 +53,7 @@ impl ColourWalk {
             return;
         }
         let [a, b, c] = *colours;
-        let first = Weights::at(triangle, x, y);
+        let first = Weights::in_area(triangle, self.divisor.half(), x, y);
         let red = self.divisor.quotient(first.numerator(a.r, b.r, c.r));
         let green = self.divisor.quotient(first.numerator(a.g, b.g, c.g));
         let blue = self.divisor.quotient(first.numerator(a.b, b.b, c.b));
@@ -65,9 +65,17 @@ impl ColourWalk {
             alpha + LIFT,
         ]);
         let steps = u64x4::from_array(self.steps);
-        for i in 0..out.len() {
-            out[i] = colour_of(accumulators);
-            accumulators = moved(accumulators, steps);
+        let pairs = out.len() / 2;
+        for pair in 0..pairs {
+            let i = 2 * pair;
+            let next = moved(accumulators, steps);
+            let (first, second) = colours_of(accumulators, next);
+            out[i] = first;
+            out[i + 1] = second;
+            accumulators = moved(next, steps);
+        }
+        if 2 * pairs < out.len() {
+            out[2 * pairs] = colours_of(accumulators, accumulators).0;
         }
     }
 }

@@ -35,11 +35,25 @@ impl Weights {
         ensures c { result.c ≡ weight_c triangle.now x y }
         ensures area { result.a + result.b + result.c ≡ area_of triangle.now }
     {
+        Weights::in_area(triangle, triangle.area().unsigned_abs(), x, y)
+    }
+
+    /// The same, where this is twice the area of the triangle.
+    pub(crate) fn in_area(triangle: &Tri, area: u64, x: u32, y: u32) -> Weights
+        requires area { area ≡ area_of triangle.now }
+        requires small { area ≤ 2 ^ 47 }
+        requires column { x < most_pixels }
+        requires row { y < most_pixels }
+        requires covered { IsTrue (covers triangle.now x y) }
+        ensures a { result.a ≡ weight_a triangle.now x y }
+        ensures b { result.b ≡ weight_b triangle.now x y }
+        ensures c { result.c ≡ weight_c triangle.now x y }
+        ensures area { result.a + result.b + result.c ≡ area_of triangle.now }
+    {
         let a = Point::vertex(triangle.a);
         let b = Point::vertex(triangle.b);
         let c = Point::vertex(triangle.c);
         let point = Point::centre(x, y);
-        let area = doubled_area(a, b, c);
         let by_a = doubled_area(b, c, point);
         let by_b = doubled_area(c, a, point);
         Weights {
