@@ -3,7 +3,7 @@
  *   HELD_TOLD=FILE     at each write of the program a line goes to this file: how many bytes it wrote so far, how many bytes of memory it holds, and how
  *                      many it asked for so far
  *
- * What is held is counted in the sizes of the blocks that the C library gave. It includes no header, so that the kit's own clang builds it on a machine
+ * All is counted in the sizes of the blocks that the C library gave. It includes no header, so that the kit's own clang builds it on a machine
  * without a C library for developers.
  */
 typedef unsigned long size_t;
@@ -30,16 +30,15 @@ __attribute__((constructor)) static void begin(void) {
     if (path) told = open(path, CREATE_AND_APPEND, 0600);
 }
 
-static void *counted(void *block, size_t size) {
-    if (block) {
-        __atomic_add_fetch(&held, malloc_usable_size(block), __ATOMIC_SEQ_CST);
-        __atomic_add_fetch(&asked, size, __ATOMIC_SEQ_CST);
-    }
+static void *counted(void *block) {
+    size_t given = block ? malloc_usable_size(block) : 0;
+    __atomic_add_fetch(&held, given, __ATOMIC_SEQ_CST);
+    __atomic_add_fetch(&asked, given, __ATOMIC_SEQ_CST);
     return block;
 }
 
 void *malloc(size_t size) {
-    return counted(__libc_malloc(size), size);
+    return counted(__libc_malloc(size));
 }
 
 void free(void *block) {
@@ -51,7 +50,7 @@ void *realloc(void *block, size_t size) {
     size_t before = block ? malloc_usable_size(block) : 0;
     void *grown = __libc_realloc(block, size);
     if (grown) __atomic_sub_fetch(&held, before, __ATOMIC_SEQ_CST);
-    return counted(grown, size);
+    return counted(grown);
 }
 
 long write(int file, const void *bytes, size_t count) {

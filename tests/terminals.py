@@ -20,11 +20,11 @@ WAITS, SPILLS = (
     rb"framedbg: the bytes of an image go to this terminal[^\n]+\n",
 )
 ERASED = b"\r\x1b[K"
-EVENTS = (
-    400  # draws of the whole target under an empty scissor: a move over them takes several parts, and nothing is drawn
-)
-WHOLE = draw([vertex(x, y, (9, 9, 9, 9)) for x, y in ((0, 0), (4096 * PIXEL, 0), (0, 4096 * PIXEL))])
-LONG = compact(frame(2048, 2048, [raster("none", scissor=True)] + [WHOLE] * (EVENTS - 1), version=1)).encode()
+# draws from corner to corner of the target, each as thin as can be: a move over them takes several parts, by their
+# boxes, and what they draw looks as before
+EVENTS = 400
+THIN = draw([vertex(x * PIXEL, y * PIXEL, (0, 0, 0, 0)) for x, y in ((0, 0), (2048, 2047), (2048, 2048))])
+LONG = compact(frame(2048, 2048, [raster("none")] + [THIN] * (EVENTS - 1), version=1)).encode()
 SECONDS = 60
 
 

@@ -19,11 +19,19 @@ use crate::fence::{Fence, Post};
 use crate::lane::{Gate, Lane};
 use crate::team::{Team, even_firsts};
 use fd_events::EventTable;
+use fd_memory::prime;
 use std::alloc::{AllocError, Global};
 use std::thread::{Threads, join_mut};
 
 /// The most workers that a run may have.
 pub const MOST_WORKERS: u32 = 64;
+
+/// Before so many lanes each of several workers lets the heap of its thread grow at once, and not page by page: that holds up the others.
+const PRIMED_LANES: usize = 64;
+
+/// What so many tiles take with the undo records of some draws. The C library takes the first piece of this size from elsewhere, and all later ones from
+/// the heap.
+const PRIMED_BYTES: usize = 2 << 20;
 
 /// How a run forward ended.
 #[derive(Clone, Copy, PartialEq, Eq, Debug)]
@@ -48,6 +56,8 @@ pub struct Advance<'a> {
 /// What all workers of a run share.
 #[derive(Clone, Copy)]
 struct Course<'a, G: Gate> {
+    alloc: Global,
+    workers: u32,
     fence: &'a Fence,
     gate: &'a G,
     table: &'a EventTable,
@@ -90,6 +100,8 @@ pub fn run_shared<R: Threads + Sync, L: Lane, G: Gate>(
     let (fence, mut seat) = Fence::raise(alloc, advance.target, advance.workers)?;
     let team = Team::whole(advance.workers, advance.firsts);
     let course = Course {
+        alloc,
+        workers: advance.workers,
         fence: &fence,
         gate,
         table: advance.table,
@@ -133,7 +145,7 @@ pub fn run_forward<R: Threads + Sync, L: Lane, G: Gate>(
 }
 
 /// Takes one lane forward until it stands at the fence or above it. Events that leave its image as it is are gone through at once, up to the next one
-/// that may draw. Where it refuses a step, it lowers the fence to where it stands, and ends.
+/// that may draw, and so are clears that follow one another. Where it refuses a step, it lowers the fence to where it stands, and ends.
 /// No lock, and no wait for another worker: one load of the fence before each such run of events with the step after it, and at most one atomic minimum.
 fn draw_lane<L: Lane, G: Gate, S: Post>(
     course: &Course<'_, G>,
@@ -163,6 +175,13 @@ fn draw_lane<L: Lane, G: Gate, S: Post>(
         let near = lane.next_near(course.table, limit as u32);
         course.gate.pass_each(number, position, near);
         lane.pass_to(course.table, near);
+        let from = lane.position();
+        if u64::from(from) >= limit {
+            return;
+        }
+        let clears = lane.next_clears(course.table, limit as u32);
+        course.gate.pass_each(number, from, clears.to);
+        lane.clear_to(course.table, clears);
         let at = lane.position();
         if u64::from(at) >= limit {
             return;
@@ -172,6 +191,13 @@ fn draw_lane<L: Lane, G: Gate, S: Post>(
             seat.lower(course.fence, u64::from(at));
             return;
         }
+    }
+}
+
+/// Lets the heap of one thread of several grow at once, before each so many of its worker's lanes, of which so many are left.
+fn grow_heap<G: Gate>(course: &Course<'_, G>, index: usize, left: usize) {
+    if course.workers > 1 && index % PRIMED_LANES == 0 && left >= PRIMED_LANES {
+        let _primed = prime(course.alloc, PRIMED_BYTES);
     }
 }
 
@@ -191,7 +217,9 @@ fn draw_lanes<L: Lane, G: Gate, S: Post>(
     ensures wanted { ((S.view seat.new).low ≡ (S.view seat.old).low) ⊎ L.wanted }
     ensures passed { ArePassed L.shown (G.opened course.now.gate.now) first lanes.old lanes.new }
 {
+    let count = lanes.len();
     for (index, lane) in lanes.iter_mut().enumerate() {
+        grow_heap(course, index, count.saturating_sub(index));
         draw_lane(course, first + index, seat, lane);
     }
 }

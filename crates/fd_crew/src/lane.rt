@@ -5,7 +5,7 @@ ghost use Rattle.fd_owner.specs.Untouched.{AreUntouched};
 ghost use Rattle.fd_owner.specs.Shown.{gone_forward, gone_on_to, gone_back, gone_back_to, refused};
 
 use fd_events::EventTable;
-use fd_owner::{Owner, Refused};
+use fd_owner::{Clears, Owner, Refused};
 
 /// What a worker takes forward and back: a place with the list of its images, the opening one and one for each event that it went through.
 /// The position is the number of those events. A lane moves to the thread of the worker that owns it, and no other thread sees it until the worker has left.
@@ -69,6 +69,35 @@ pub trait Lane: Send {
         let (_table, _at_most) = (table, to);
     }
 
+    /// The next events, up to position `to` at most, that `clear_to` goes through at once. A lane that can't tell answers none.
+    fn next_clears(&self, table: &EventTable, to: u32) -> Clears
+        requires on { position (shown self.now).history ≤ to }
+        requires last { to ≤ length table.now.events }
+        requires fits { fits self.now table.now }
+        ensures least { position (shown self.now).history ≤ result.to }
+        ensures most { result.to ≤ to }
+    {
+        let (_table, _at_most) = (table, to);
+        Clears {
+            to: self.position(),
+            count: 0,
+        }
+    }
+
+    /// Goes at once through these next events, as far as it needs no step of its own for one of them, and can't be refused. A lane that goes through each
+    /// event for itself stays.
+    fn clear_to(&mut self, table: &EventTable, clears: Clears)
+        requires on { position (shown self.old).history ≤ clears.to }
+        requires last { clears.to ≤ length table.now.events }
+        requires fits { fits self.old table.now }
+        ensures moved { shown self.new ≡ gone_on_to table.now (position (shown self.new).history) (shown self.old) }
+        ensures least { position (shown self.old).history ≤ position (shown self.new).history }
+        ensures most { position (shown self.new).history ≤ clears.to }
+        ensures fits { fits self.new table.now }
+    {
+        let (_table, _clears) = (table, clears);
+    }
+
     /// Goes back over the last event: the exact inverse of the step forward, which can't be refused.
     fn back(&mut self)
         requires { 0 < position (shown self.old).history }
@@ -120,6 +149,14 @@ impl Lane for Owner {
 
     fn pass_to(&mut self, table: &EventTable, to: u32) {
         Owner::pass_to(self, table, to)
+    }
+
+    fn next_clears(&self, table: &EventTable, to: u32) -> Clears {
+        Owner::next_clears(self, table, to)
+    }
+
+    fn clear_to(&mut self, table: &EventTable, clears: Clears) {
+        Owner::clear_to(self, table, clears)
     }
 
     fn back(&mut self) {

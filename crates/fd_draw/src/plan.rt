@@ -178,11 +178,14 @@ pub fn draws_nothing(event: &Event, state: &Pipeline, place: Place) -> bool
 {
     match event.effect() {
         Effect::Draw(draw) => {
+            // the window takes longest, so it is found last
             if is_shut(&state.depth) {
                 return true;
             }
-            let window = window_of(draw, state, place);
-            is_idle(draw, &state.raster, window)
+            if draw.is_culled(&state.raster) {
+                return true;
+            }
+            window_of(draw, state, place).is_empty()
         }
         Effect::Clear(_) | Effect::State | Effect::Nothing => false,
     }

@@ -3,8 +3,8 @@ ghost use Rattle.std.specs.Prelude.{◌≡◌, ◌<◌, ◌≤◌, ◌+◌, leng
 ghost use Rattle.std.specs.List.{range_with_len};
 ghost use Rattle.fd_events.specs.Image.{colour_at};
 
-use fd_blend::Colour;
 use fd_events::EventTable;
+use fd_tile::Piece;
 
 /// A frame at a position, whose image is read row by row.
 pub trait Shows {
@@ -19,12 +19,11 @@ pub trait Shows {
 
     /// The colours of row y at the position, from column x to the right border of the tile there.
     #[doc(hidden)]
-    fn row_from(&self, x: u32, y: u32) -> &[Colour]
+    fn row_from(&self, x: u32, y: u32) -> Piece
         requires column { x < (state self.now).table.width }
         requires row { y < (state self.now).table.height }
-        ensures some { 0 < length result.now }
-        ensures inside { x + length result.now ≤ (state self.now).table.width }
-        ensures short { length result.now ≤ 32 }
-        ensures colours { result.now ≡ map (λ column. colour_at (state self.now).table (state self.now).position column y)
-            (range_with_len x (length result.now)) };
+        ensures some { 0 < length result.items }
+        ensures inside { x + length result.items ≤ (state self.now).table.width }
+        ensures colours { result.items ≡ map (λ column. colour_at (state self.now).table (state self.now).position column y)
+            (range_with_len x (length result.items)) };
 }

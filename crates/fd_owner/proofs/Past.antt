@@ -1,14 +1,14 @@
 -- What an owner stands for past its next event, and after a refusal.
-use Rattle.std.proofs.Common.{◌≡◌, ℕ, ◌+◌, ◌^◌, ◌<◌, [], ◌∷◌, ◌++◌, length, refl, ap, ◌∙◌}
+use Rattle.std.proofs.Common.{◌≡◌, ℕ, ◌+◌, ◌^◌, ◌<◌, Bool, true, false, [], ◌∷◌, ◌++◌, length, refl, ap, ◌∙◌}
 use Rattle.fd_tile.specs.Tile.{TileImage, IsTileImage}
 use Rattle.fd_undo.specs.Undo.{Undo, without_room}
 use Rattle.fd_events.specs.declared.event.Event.{Event}
 use Rattle.fd_events.specs.declared.pipeline.Pipeline.{Pipeline}
-use Rattle.fd_events.specs.Table.{Table}
+use Rattle.fd_events.specs.Table.{Table, state_at}
 use Rattle.fd_draw.specs.Paints.{Paints}
 use Rattle.fd_owner.specs.History.{History, pixel_past, kept_past, extend}
 use Rattle.fd_owner.specs.Owner.{history_of, IsOwner, OpensFresh}
-use Rattle.fd_owner.specs.Step.{IsNext, IsPast, IsSame}
+use Rattle.fd_owner.specs.Step.{ClearsPast, IsNext, IsPast, IsSame}
 use Rattle.fd_owner.proofs.Forward.{Paints-past, history_of-step, IsOwner-step}
 use Rattle.fd_owner.proofs.Pictures.{history_of-made, IsOwner-made, OpensFresh-kept}
 
@@ -55,3 +55,18 @@ module _ (t t' : TileImage) (u u' : Undo) where
     pub opens_same : OpensFresh t u → OpensFresh t' u'
     opens_same fresh =
         OpensFresh-kept t t' u u' (ap (λ (h : History). h.opening) history_same) (ap (λ (s : TileImage). s.place) same.tile) same.opening fresh
+
+  -- where the event after position k may have been drawn as a clear
+  module _ (table : Table) (k : ℕ) (filled : IsTileImage t) (owner : IsOwner t u) (at : k ≡ length u.frames) where
+    pub owner_cleared : (drawn : Bool) → (drawn ≡ true → ClearsPast table k t u t' u') → (drawn ≡ false → IsSame t u t' u') → k + 1 < 2 ^ 32 → IsOwner t' u'
+    owner_cleared true past same fits =
+        let clears = past refl in
+        owner_past table k clears.event (state_at table k) clears.next filled owner at clears.past fits
+    owner_cleared false past same fits = owner_same (same refl) owner
+
+    pub opens_cleared : (drawn : Bool) → (drawn ≡ true → ClearsPast table k t u t' u') → (drawn ≡ false → IsSame t u t' u') → OpensFresh t u
+        → OpensFresh t' u'
+    opens_cleared true past same fresh =
+        let clears = past refl in
+        opens_past table k clears.event (state_at table k) clears.next filled owner at clears.past fresh
+    opens_cleared false past same fresh = opens_same (same refl) fresh

@@ -51,6 +51,12 @@ pub record IsPast (event : Event) (state : Pipeline) (t : TileImage) (u : Undo) 
       (without_room u.opens_fresh (u.frames ++ [] ∷ [])) t' u'
   pub alike : t'.made ≡ false → IsAlike t.place (top u'.frames)
 
+-- the event after position k is drawn so
+pub record ClearsPast (table : Table) (k : ℕ) (t : TileImage) (u : Undo) (t' : TileImage) (u' : Undo) : Type 0 where
+  pub event : Event
+  pub next : IsNext event (state_at table k) table k
+  pub past : IsPast event (state_at table k) t u t' u'
+
 -- what a step over an event comes to: it is drawn, or refused for want of memory, and then nothing changed; what writes nothing isn't refused
 pub record StepsOver (event : Event) (state : Pipeline) (t : TileImage) (u : Undo) {A E : Type 0} (result : Result A E) (t' : TileImage) (u' : Undo)
     : Type 0 where

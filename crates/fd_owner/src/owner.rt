@@ -1,6 +1,6 @@
-ghost use Rattle.std.specs.Prelude.{◌≡◌, ℕ, ◌+◌, ◌-◌, ◌<◌, ◌≤◌, ◌++◌, [], length, take, map, None, slice_get};
-ghost use Rattle.std.specs.Prelude.{IsOk, OnOk, OnErr};
-ghost use Rattle.fd_tile.specs.Place.{Holds, HasRow, IsTilePlace};
+ghost use Rattle.std.specs.Prelude.{◌≡◌, ℕ, ◌+◌, ◌-◌, ◌<◌, ◌≤◌, ◌++◌, [], length, take, drop, map, None, slice_get};
+ghost use Rattle.std.specs.Prelude.{IsOk, OnOk, OnErr, true, false};
+ghost use Rattle.fd_tile.specs.Place.{Holds, IsTilePlace};
 ghost use Rattle.fd_tile.specs.Tile.{FillsPlace, pixels_of, row_in, pixel_in};
 ghost use Rattle.fd_draw.specs.Area.{box_of_place};
 ghost use Rattle.fd_owner.specs.History.{position, last_image, pixels_kept, pixels_recorded};
@@ -9,11 +9,12 @@ ghost use Rattle.fd_owner.specs.Step.{spans_past, pixels_past};
 ghost use Rattle.fd_owner.specs.Untouched.{AreUntouched};
 ghost use Rattle.fd_memory.specs.Wanting.{Wanted};
 
+use crate::clears::{Clears, clear_past, is_clear};
 use crate::next::{Next, number_past, pass_idle};
 use fd_blend::Colour;
 use fd_cover::Bounds;
 use fd_events::EventTable;
-use fd_tile::{Place, Tile};
+use fd_tile::{Piece, Place, Tile};
 use fd_undo::UndoStack;
 use std::alloc::{AllocError, Global};
 use std::marker::Model;
@@ -113,13 +114,14 @@ impl Owner {
         self.tile.depth(x, y)
     }
 
-    /// The colours of row y of the image that is shown, from the left.
-    pub fn row(&self, y: u32) -> &[Colour]
-        requires { HasRow self.now.place y }
-        ensures { result.now ≡ map (λ pixel. pixel.0) (row_in self.now.place (last_image self.now.history) y) }
+    /// The colours of row y of the image that is shown, from column x on, left to right.
+    pub fn row_from(&self, x: u32, y: u32) -> Piece
+        requires { Holds self.now.place x y }
+        ensures value { result.items ≡ drop (x - self.now.place.left) (map (λ pixel. pixel.0) (row_in self.now.place (last_image self.now.history) y)) }
+        ensures long { x + length result.items ≡ self.now.place.left + self.now.place.width }
     {
         let _place = self.tile.place();
-        self.tile.row(y)
+        self.tile.row_from(x, y)
     }
 
     /// How many pixels all events overwrote.
@@ -208,7 +210,9 @@ impl Owner {
         self.undo.undo_to(to as usize, &mut self.tile);
     }
 
-    /// The first position from the owner's own on, and `to` at most, whose next event may write on the tile, as far as boxes, flags and its state tell.
+    /// The first position from the owner's own on, and `to` at most, whose next event may write on the tile, as far as boxes, flags and its state tell. It
+    /// stands in its callers, as most tiles are asked for nothing else.
+    #[inline(always)]
     pub fn next_near(&self, table: &EventTable, to: u32) -> u32
         requires on { position self.now.history ≤ to }
         requires last { to ≤ length table.now.events }
@@ -237,6 +241,80 @@ impl Owner {
     {
         let (_place, _table) = (self.tile.place(), table);
         self.undo.pass_to(to as usize);
+    }
+
+    /// The next events, up to position `to` at most, that `clear_to` goes through: those up to the last clear before one that may write otherwise, as far as
+    /// boxes and flags tell; none where the pixels of the tile aren't known to be alike.
+    pub fn next_clears(&self, table: &EventTable, to: u32) -> Clears
+        requires on { position self.now.history ≤ to }
+        requires last { to ≤ length table.now.events }
+        ensures least { position self.now.history ≤ result.to }
+        ensures most { result.to ≤ to }
+    {
+        let mut clears = Clears {
+            to: self.position(),
+            count: 0,
+        };
+        if self.tile.flat_colour().is_none() || self.tile.flat_depth().is_none() {
+            return clears;
+        }
+        let window = self.bounds();
+        let mut near = clears.to;
+        while near < to && is_clear(table, near) {
+            near += 1;
+            clears = Clears {
+                to: near,
+                count: clears.count.saturating_add(1),
+            };
+            if near < to && !is_clear(table, near) {
+                near = table.next_near(near, to, window);
+            }
+        }
+        clears
+    }
+
+    /// Goes at once through these next events, as far as they are clears or write nothing, the pixels of the tile are known to be alike and there is memory
+    /// for what they overwrite. It can't be refused: it ends before the first event that wants another step.
+    pub fn clear_to(&mut self, table: &EventTable, clears: Clears)
+        requires on { position self.old.history ≤ clears.to }
+        requires last { clears.to ≤ length table.now.events }
+        requires inside { IsInside self.old.place table.now }
+        ensures moved { self.new ≡ gone_on_to table.now (position self.new.history) self.old }
+        ensures least { position self.old.history ≤ position self.new.history }
+        ensures most { position self.new.history ≤ clears.to }
+    {
+        self.expect(clears.count);
+        while self.position() < clears.to {
+            if self.clear(table) {
+                continue;
+            }
+            let near = self.next_near(table, clears.to);
+            if near == self.position() {
+                return;
+            }
+            self.pass_to(table, near);
+        }
+    }
+
+    /// Makes room at once for so many clears, where there are several: one makes its own.
+    fn expect(&mut self, clears: u32)
+        ensures { self.new ≡ self.old }
+    {
+        if clears > 1 {
+            self.undo.expect_alike(clears as usize);
+        }
+    }
+
+    /// Goes through the next event, where it is a clear that is switched on and the pixels of the tile are known to be alike. It says whether it did: else, and
+    /// where there is no memory for it, nothing changes.
+    fn clear(&mut self, table: &EventTable) -> bool
+        requires below { position self.old.history < length table.now.events }
+        ensures yes { result ≡ true → self.new ≡ gone_forward table.now self.old }
+        ensures no { result ≡ false → self.new ≡ self.old }
+    {
+        let position = self.position();
+        let (_place, _number) = (self.tile.place(), number_past(table, position));
+        clear_past(table, position, &mut self.tile, &mut self.undo)
     }
 
     /// Forgets what all events overwrote, and gives its memory back. The position and the image that is shown stay, and the way back shows that image alone.

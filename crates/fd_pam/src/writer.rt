@@ -153,7 +153,7 @@ fn send_tuples<F: Shows, W: Sink>(frame: &F, sink: &mut W, sent: &mut u64) -> Re
         while x < width {
             make_room(&mut chunk, sink, sent)?;
             let piece = frame.row_from(x, y);
-            add_tuples(&mut chunk, piece);
+            add_tuples(&mut chunk, &piece);
             x += piece.len() as u32;
         }
     }

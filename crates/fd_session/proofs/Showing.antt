@@ -1,7 +1,6 @@
 -- What an owner shows of a pixel, and of a row of its tile.
-use Rattle.std.proofs.Common.{◌≡◌, ℕ, zero, suc, ◌+◌, ◌-◌, Bool, List, All, get_or, length, map, take, drop, ap, ◌∙◌, arith}
+use Rattle.std.proofs.Common.{◌≡◌, ℕ, zero, suc, ◌+◌, ◌-◌, Bool, List, All, get_or, map, drop, ap, ◌∙◌, arith}
 use Rattle.std.specs.List.{range_with_len}
-use Rattle.std.proofs.lemmas.List.{take_all, length-drop}
 use Rattle.fd_blend.specs.declared.channel.Colour.{Colour}
 use Rattle.fd_tile.specs.Place.{Holds}
 use Rattle.fd_tile.specs.Tile.{Pixel, pixel_in, row_in}
@@ -36,16 +35,15 @@ module _ (table : Table) (k : ℕ) (o : Shown) (x y : ℕ) (shown : ShowsAt tabl
   owner_shows = ap (λ (rows : List (List Pixel)). pixel_in o.place rows x y) shown ∙ pixel_drawn table o.place k x y holds
 
   -- a row of its tile from column x on
-  pub row_shows : (row : List Colour) → row ≡ map (λ (q : Pixel). q.0) (row_in o.place (last_image o.history) y)
-      → take (length row - (x - o.place.left)) (drop (x - o.place.left) row)
-      ≡ map (λ column. colour_at table k column y) (range_with_len x (o.place.left + o.place.width - x))
+  pub row_shows : (row : List Colour) → row ≡ drop (x - o.place.left) (map (λ (q : Pixel). q.0) (row_in o.place (last_image o.history) y))
+      → row ≡ map (λ column. colour_at table k column y) (range_with_len x (o.place.left + o.place.width - x))
   row_shows row read =
       let colours : ℕ → Colour = λ column. colour_at table k column y in
       let left = holds.from_left in
       let right = holds.to_right in
-      take_all (length row - (x - o.place.left)) (drop (x - o.place.left) row) (omega (arith, length-drop (x - o.place.left) row))
+      read
       ∙ ap (drop (x - o.place.left))
-      (read ∙ ap (λ (rows : List (List Pixel)). map (λ (q : Pixel). q.0) (row_in o.place rows y)) (shown ∙ last_drawn table o.place k)
+      (ap (λ (rows : List (List Pixel)). map (λ (q : Pixel). q.0) (row_in o.place rows y)) (shown ∙ last_drawn table o.place k)
       ∙ ap (map (λ (q : Pixel). q.0)) (row_in-over_place o.place (λ a b. pixel_at table k a b) y (HasRow-from_Holds o.place x y holds))
       ∙ map_mapped (λ column. pixel_at table k column y) (λ (q : Pixel). q.0) (range_with_len o.place.left o.place.width))
       ∙ row_part colours o.place.left o.place.width (x - o.place.left) x (o.place.left + o.place.width - x) (omega arith) (omega arith)

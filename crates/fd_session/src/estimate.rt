@@ -7,9 +7,9 @@ ghost use Rattle.fd_session.specs.Held.{size_of};
 ghost use Rattle.fd_session.specs.Near.{IsBefore};
 
 use arrayvec::ArrayVec;
-use fd_cover::Bounds;
+use fd_cover::{Bounds, Func};
 use fd_crew::MOST_WORKERS;
-use fd_events::{Draw, Effect, EventTable, GROUP_LEN};
+use fd_events::{Clear, Draw, Effect, EventTable, GROUP_LEN, Pipeline};
 use fd_snap::MAX_SIDE;
 use fd_tile::TILE_SIDE;
 
@@ -24,6 +24,15 @@ const TRIANGLE_WORK: usize = 450;
 
 /// The work of passing over a triangle that lies beside the tile, in nanoseconds.
 const PASSED_WORK: usize = 60;
+
+/// The work of a clear on a tile that is known to be alike, in nanoseconds.
+const ALIKE_WORK: usize = 100;
+
+/// The work of passing over a draw on a tile, where its state lets it draw nothing, in nanoseconds.
+const IDLE_WORK: usize = 10;
+
+/// So many events before a slice are asked whether its tiles are alike.
+const LOOKED_BACK: u32 = 64;
 
 /// The most rows of tiles that there are.
 const MOST_ROWS: usize = (MAX_SIDE / TILE_SIDE) as usize;
@@ -116,20 +125,83 @@ impl Area {
     }
 }
 
+/// Whether all tiles are known to be of one colour, and of one depth.
+#[derive(Clone, Copy)]
+struct Alike {
+    colours: bool,
+    depths: bool,
+}
+
+impl Alike {
+    /// Past the first events up to a position, as far as the last of them tell.
+    fn at(table: &EventTable, position: u32) -> Alike
+        requires { position ≤ length table.now.events }
+    {
+        let first = position.saturating_sub(LOOKED_BACK);
+        let mut alike = Alike {
+            colours: first == 0,
+            depths: first == 0 || !has_depths(table),
+        };
+        for at in first..position {
+            alike = alike.past(table, at + 1);
+        }
+        alike
+    }
+
+    /// Past the event of this number too. A draw is taken to reach them all.
+    fn past(self, table: &EventTable, number: u32) -> Alike
+        requires first { 1 ≤ number }
+        requires last { number ≤ length table.now.events }
+    {
+        if !table.is_on(number) {
+            return self;
+        }
+        match table.event(number).effect() {
+            Effect::Clear(Clear::Colours(_)) => Alike {
+                colours: true,
+                ..self
+            },
+            Effect::Clear(Clear::Depths(_)) => Alike {
+                depths: true,
+                ..self
+            },
+            Effect::Draw(_) => Alike {
+                colours: false,
+                depths: self.depths && !has_depths(table),
+            },
+            Effect::State | Effect::Nothing => self,
+        }
+    }
+
+    /// Whether they are.
+    fn is_both(self) -> bool {
+        self.colours && self.depths
+    }
+}
+
+/// Whether events of a table may write depths.
+fn has_depths(table: &EventTable) -> bool {
+    table.version() > 1
+}
+
 /// What some events take on the tiles of an area, in nanoseconds.
 #[derive(Drop)]
 pub(crate) struct Estimate<'a> {
     area: &'a Area,
+    alike: Alike,
     work: usize,
     // what of the work lies in each row of tiles
     rows: [usize; MOST_ROWS],
 }
 
 impl<'a> Estimate<'a> {
-    /// Of no event.
-    pub(crate) fn of(area: &'a Area) -> Estimate<'a> {
+    /// Of no event past a position.
+    pub(crate) fn of(area: &'a Area, table: &EventTable, position: u32) -> Estimate<'a>
+        requires { position ≤ length table.now.events }
+    {
         Estimate {
             area,
+            alike: Alike::at(table, position),
             work: 0,
             rows: [0; MOST_ROWS],
         }
@@ -178,23 +250,39 @@ impl<'a> Estimate<'a> {
         }
     }
 
-    /// Adds the event of this number. A tile that it doesn't reach doesn't look at it, so it takes nothing there.
+    /// Adds the event of this number, the next one. A tile that it doesn't reach doesn't look at it, so it takes nothing there.
     pub(crate) fn add_event(&mut self, table: &EventTable, number: u32)
         requires first { 1 ≤ number }
         requires last { number ≤ length table.now.events }
     {
         let reached = self.area.bounds.meet(table.reach(number));
         let pixels = reached.count();
-        if pixels == 0 || !table.is_on(number) {
-            return;
+        if pixels > 0 && table.is_on(number) {
+            self.add_reached(table, number, &reached);
         }
+        self.alike = self.alike.past(table, number);
+    }
+
+    /// Adds the event of this number, which is switched on, where it reaches these pixels of the area.
+    fn add_reached(&mut self, table: &EventTable, number: u32, reached: &Bounds)
+        requires first { 1 ≤ number }
+        requires last { number ≤ length table.now.events }
+    {
+        let pixels = reached.count();
+        let tiles = tiles_of(pixels);
         match table.event(number).effect() {
+            Effect::Draw(draw) if is_undrawn(draw, table.state_before(number)) => {
+                self.add(reached, tiles.saturating_mul(IDLE_WORK));
+            }
             Effect::Draw(draw) => {
-                self.add(&reached, tiles_of(pixels).saturating_mul(LOOK_WORK));
+                self.add(reached, tiles.saturating_mul(LOOK_WORK));
                 self.add_draw(draw);
             }
+            Effect::Clear(_) if self.alike.is_both() => {
+                self.add(reached, tiles.saturating_mul(ALIKE_WORK));
+            }
             Effect::Clear(_) | Effect::State | Effect::Nothing => {
-                self.add(&reached, pixels.saturating_mul(PIXEL_WORK));
+                self.add(reached, pixels.saturating_mul(PIXEL_WORK));
             }
         }
     }
@@ -239,6 +327,18 @@ impl<'a> Estimate<'a> {
         }
         firsts
     }
+}
+
+/// Whether a state is seen to let a draw draw nothing, on whatever tile.
+fn is_undrawn(draw: &Draw, state: &Pipeline) -> bool {
+    let Pipeline {
+        raster,
+        scissor,
+        depth,
+        ..
+    } = state;
+    let shut = raster.scissor && (scissor.right <= scissor.left || scissor.bottom <= scissor.top);
+    shut || draw.is_culled(raster) || (depth.enable && matches!(depth.func, Func::Never))
 }
 
 /// How many tiles lie between two edges, the first and the last of them perhaps in part.

@@ -11,11 +11,10 @@ ghost use Rattle.fd_session.specs.Near.{StandsNear};
 ghost use Rattle.fd_memory.specs.Wanting.{Wanted};
 
 use crate::drive::{Drive, Policy};
-use fd_blend::Colour;
 use fd_crew::Gate;
 use fd_events::EventTable;
 use fd_owner::Owner;
-use fd_tile::{Grid, Tile};
+use fd_tile::{Grid, Piece, Tile};
 use std::alloc::{AllocError, Global};
 
 /// The owners of a target's tiles, and what takes them forward.
@@ -95,18 +94,16 @@ impl Frame {
     }
 
     /// The colours of row y where the owners stand, from column x to the right border of the tile there.
-    pub(crate) fn row_from(&self, x: u32, y: u32) -> &[Colour]
+    pub(crate) fn row_from(&self, x: u32, y: u32) -> Piece
         requires column { x < self.now.grid.width }
         requires row { y < self.now.grid.height }
         requires places { places_of self.now.owners.items ≡ first_places self.now.grid (tile_count self.now.grid) }
-        ensures some { 0 < length result.now }
-        ensures inside { x + length result.now ≤ self.now.grid.width }
-        ensures short { length result.now ≤ 32 }
+        ensures some { 0 < length result.items }
+        ensures inside { x + length result.items ≤ self.now.grid.width }
         ensures colours { (table : Table) (k : ℕ) → All (ShowsAt table k) self.now.owners.items
-            → result.now ≡ map (λ column. colour_at table k column y) (range_with_len x (length result.now)) }
+            → result.items ≡ map (λ column. colour_at table k column y) (range_with_len x (length result.items)) }
     {
-        let owner = self.owner_of(x, y);
-        &owner.row(y)[(x - owner.place().left) as usize..]
+        self.owner_of(x, y).row_from(x, y)
     }
 }
 

@@ -17,6 +17,7 @@ use fd_events::{EventTable, Pipeline};
 use fd_frame::Shows;
 use fd_history::{Entry, history_near};
 use fd_owner::Owner;
+use fd_tile::Piece;
 use std::alloc::{AllocError, Global};
 use std::marker::Model;
 use std::thread::Threads;
@@ -331,7 +332,7 @@ impl Shows for Session {
         &self.frame.table
     }
 
-    fn row_from(&self, x: u32, y: u32) -> &[Colour] {
+    fn row_from(&self, x: u32, y: u32) -> Piece {
         self.frame.row_from(x, y)
     }
 }

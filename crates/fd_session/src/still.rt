@@ -7,11 +7,11 @@ use crate::drive::Policy;
 use crate::frame::Frame;
 use crate::moves::go_forward;
 use crate::way::Way;
-use fd_blend::Colour;
 use fd_crew::Free;
 use fd_device::Progress;
 use fd_events::EventTable;
 use fd_frame::Shows;
+use fd_tile::Piece;
 use std::alloc::{AllocError, Global};
 use std::marker::Model;
 use std::thread::Threads;
@@ -108,7 +108,7 @@ impl Shows for Still {
         &self.frame.table
     }
 
-    fn row_from(&self, x: u32, y: u32) -> &[Colour] {
+    fn row_from(&self, x: u32, y: u32) -> Piece {
         self.frame.row_from(x, y)
     }
 }

@@ -93,7 +93,7 @@ pub(crate) fn next_slice(way: &Way<'_>, at: u32, workers: u32, work_each: usize)
     let enough = fetched
         .saturating_add(useful.saturating_mul(work_each))
         .min(SLICE_MOST);
-    let mut estimate = Estimate::of(&area);
+    let mut estimate = Estimate::of(&area, table, at);
     let mut end = at;
     loop {
         end += 1;

@@ -1,7 +1,7 @@
 -- Rows that stand one after the other in a list.
 use Rattle.std.proofs.Common.{◌≡◌, ℕ, zero, suc, ◌+◌, ◌-◌, ◌*◌, ◌<◌, ◌≤◌, List, [], ◌∷◌, ◌++◌, length, get_or, take, drop, replicate, refl, sym, ap}
 use Rattle.std.proofs.Common.{◌∙◌, arith, append_assoc, length-append, length-drop, Option, Bool, true, false}
-use Rattle.std.specs.Prelude.{slice_set, slice_index_or, unwrap_or, All, if◌then◌else◌}
+use Rattle.std.specs.Prelude.{slice_set, unwrap_or, All, if◌then◌else◌}
 use Rattle.std.proofs.Math.Nat.{zero-mul, suc-mul, add-mul, mul-le-mul_right}
 use Rattle.std.proofs.lemmas.Nat.{row_fits}
 use Rattle.std.proofs.lemmas.List.{take-take, take-append-le, drop-append-le, drop-drop, drop-take, length-take-le}
@@ -16,7 +16,7 @@ use Rattle.fd_tile.specs.Place.{HasRow, IsTilePlace}
 use Rattle.fd_tile.specs.Part.{part_left, pasted_at}
 use Rattle.fd_blend.specs.declared.channel.Colour.{Colour}
 use Rattle.fd_tile.specs.Tile.{FillsPlace, IsTileImage, IsTile, cut_rows, row_cut, rows_over, row_in, of_rows, with_row_in, with_row, with_rows_from}
-use Rattle.fd_tile.specs.Tile.{flat_over, rows_shown, depths_shown}
+use Rattle.fd_tile.specs.Tile.{flat_over, rows_shown}
 use Rattle.fd_blend.specs.Channel.{fresh}
 
 length-pasted_at : {X : Type 0} (i : ℕ) (new xs : List X) → i + length new ≤ length xs → length (pasted_at i new xs) ≡ length xs
@@ -189,12 +189,12 @@ pub FillsPlace-shown : {X : Type 0} (p : Place) (made : Bool) (items : List X) (
 FillsPlace-shown p true items value placed counted = FillsPlace-rows_over p items (counted refl) placed
 FillsPlace-shown p false items value placed counted = FillsPlace-flat p value placed
 
-pub IsTile-filled : (p : Place) (made : Bool) (colours : List Colour) (depths : List ℕ) (row : List Colour) (is_flat : Bool) (flat : Option ℕ)
-    → IsTile p made colours depths row is_flat flat
-    → IsTileImage (record { place = p; rows = rows_shown made p colours row; depths = depths_shown made p depths flat; made = made })
-IsTile-filled p made colours depths row is_flat flat i = record {
-  colours = FillsPlace-shown p made colours (slice_index_or row 0 fresh) i.placed i.counted;
-  depths = FillsPlace-shown p made depths (unwrap_or flat 65535) i.placed i.deep_counted;
+pub IsTile-filled : (p : Place) (made : Bool) (colours : List Colour) (depths : List ℕ) (colour : Option Colour) (depth : Option ℕ)
+    → IsTile p made colours depths colour depth
+    → IsTileImage (record { place = p; rows = rows_shown made p colours colour fresh; depths = rows_shown made p depths depth 65535; made = made })
+IsTile-filled p made colours depths colour depth i = record {
+  colours = FillsPlace-shown p made colours (unwrap_or colour fresh) i.placed i.counted;
+  depths = FillsPlace-shown p made depths (unwrap_or depth 65535) i.placed i.deep_counted;
 }
 
 -- one value everywhere

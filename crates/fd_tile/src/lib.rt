@@ -4,7 +4,7 @@
 pub use filling::fill;
 pub use grid::Grid;
 pub use place::{Place, TILE_SIDE};
-pub use tile::Tile;
+pub use tile::{Piece, Tile};
 
 mod filling;
 mod grid;

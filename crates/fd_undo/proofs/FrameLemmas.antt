@@ -1,6 +1,6 @@
 -- The newest of a list, the pixels of frames, and colours beside their depths.
 use Rattle.std.proofs.Common.{◌≡◌, ℕ, zero, suc, ◌+◌, ◌-◌, ◌*◌, ◌<◌, List, [], ◌∷◌, ◌++◌, length, get_or, refl, sym, ap, ◌∙◌, arith}
-use Rattle.std.proofs.Common.{length-append, length-drop, drop, ◌≤◌}
+use Rattle.std.proofs.Common.{length-append, length-drop, drop}
 use Rattle.std.proofs.Math.Nat.{zero-mul, suc-mul}
 use Rattle.std.proofs.lemmas.List.{take_at, get_or_push, take_all, length_push, take_more}
 use Rattle.std.proofs.lemmas.List.Sums.{sum_by-cons}

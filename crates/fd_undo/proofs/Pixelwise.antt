@@ -1,14 +1,14 @@
 -- Frames that are put back, pixel by pixel; and those that keep a whole place, which was alike.
 use Rattle.std.proofs.lemmas.Bool.Decides.{nat_tests}
 use Rattle.std.proofs.lemmas.Grind.{common_steps}
-use Rattle.std.proofs.Common.{◌≡◌, ℕ, List, [], ◌∷◌, refl, arith, zero, suc, ◌+◌, ◌*◌, ◌≤◌, length, replicate, ap, Option, Some, None}
+use Rattle.std.proofs.Common.{◌≡◌, ℕ, List, [], ◌∷◌, refl, arith, zero, suc, ◌*◌, length, replicate, ap, Option, Some, None}
 use Rattle.std.specs.Prelude.{slice_get}
 use Rattle.std.proofs.lemmas.List.{get_or-set_same, get_or-set_other, length-replicate, get_or-replicate}
 use Rattle.fd_tile.specs.declared.place.Place.{Place}
 use Rattle.fd_tile.specs.Place.{Holds, IsTilePlace}
 use Rattle.fd_tile.specs.Tile.{Pixel, TileImage, IsTileImage, FillsPlace, value_in, pixel_of, IsFlat, flat_over, with_colours, with_depths}
 use Rattle.fd_tile.proofs.Pixels.{length-row_in, row_in-same, row_in-other, rows_ext, row_in-flat}
-use Rattle.fd_undo.specs.Frame.{KeptPixel, restored, kept_at, kept_rows, alike, IsAlike, KeepsAll}
+use Rattle.fd_undo.specs.Frame.{KeptPixel, restored, kept_at, alike, IsAlike, KeepsAll}
 use Rattle.fd_undo.proofs.Restored.{Inside, restored-place, kept_rows-inside, restored-made}
 use Rattle.std.specs.List.{zip}
 use Rattle.fd_blend.specs.Channel.{fresh}

@@ -18,6 +18,10 @@ pub record Filled : Type 0 where
   pub colours_left : ℕ
   pub depths_left : ℕ
 
+-- a block that has no room
+abbrev pub no_block : Filled
+no_block = record { frames = []; frames_left = 0; spans_left = 0; colours_left = 0; depths_left = 0 }
+
 -- full blocks, oldest first, and for how many more there is room
 pub record Full : Type 0 where
   pub items : List Filled

@@ -7,7 +7,7 @@ const LEAST_ROOM: usize = 64;
 /// It has room for twice what the block before it holds, but for no more than so many beside its first frame.
 const GREATEST_ROOM: usize = 2048;
 
-/// So many spans stand in the block itself, and more in memory of their own.
+/// So many spans stand in the block's lists themselves, and more in memory of their own.
 pub(crate) const SPANS_INSIDE: usize = 8;
 
 /// How many frames, spans, colours and depths a block has room for.
@@ -20,6 +20,14 @@ pub(crate) struct Room {
 }
 
 impl Room {
+    /// No room.
+    pub(crate) const NONE: Room = Room {
+        frames: 0,
+        spans: 0,
+        colours: 0,
+        depths: 0,
+    };
+
     /// What one frame of so many spans and pixels needs.
     pub(crate) fn needed(spans: usize, pixels: usize) -> Room
         ensures { result ≡ record { frames = 1; spans = spans; colours = pixels; depths = pixels } }
@@ -32,14 +40,14 @@ impl Room {
         }
     }
 
-    /// What one frame of one span needs, which is of one colour and one depth.
-    pub(crate) fn alike() -> Room
-        ensures { result ≡ record { frames = 1; spans = 1; colours = 1; depths = 0 } }
+    /// What so many frames of one span each need, which is of one colour and one depth.
+    pub(crate) fn alike(frames: usize) -> Room
+        ensures { result ≡ record { frames = frames; spans = frames; colours = frames; depths = 0 } }
     {
         Room {
-            frames: 1,
-            spans: 1,
-            colours: 1,
+            frames,
+            spans: frames,
+            colours: frames,
             depths: 0,
         }
     }

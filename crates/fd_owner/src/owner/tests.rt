@@ -276,6 +276,58 @@ fn a_tile_is_made_when_it_is_drawn_on(rt: HostRuntime) -> Result<(), Fail> {
     Ok(())
 }
 
+/// Clears of which the first is switched off, with a state between two of them, and a draw before the last.
+fn clears_and_a_draw(alloc: Global) -> Result<EventTable, Fail> {
+    let half = (UPPER_LEFT, colour(0, 255, 0, 255), 0);
+    let mut events = Vec::new(alloc);
+    events.push(Event::Clear(colour(1, 1, 1, 1)))?;
+    events.push(Event::Clear(colour(2, 2, 2, 2)))?;
+    events.push(Event::SetFactor(colour(9, 9, 9, 9)))?;
+    events.push(Event::DepthClear(7))?;
+    events.push(Event::Clear(colour(3, 3, 3, 3)))?;
+    events.push(flat(alloc, &[half])?)?;
+    events.push(Event::Clear(colour(4, 4, 4, 4)))?;
+    let mut table = start(alloc, (2, 2), events)?;
+    switch_off(&mut table)?;
+    Ok(table)
+}
+
+/// Goes at once through the clears that are next, and says up to which position and how many they are.
+fn clear(owner: &mut Owner, table: &EventTable) -> Result<(u32, u32), Fail> {
+    let place = owner.place();
+    let inside = place.left + place.width <= table.width()
+        && place.top + place.height <= table.height();
+    if owner.position() > table.len() || !inside {
+        return Err(Fail::from("no next event"));
+    }
+    let clears = owner.next_clears(table, table.len());
+    owner.clear_to(table, clears);
+    Ok((clears.to, clears.count))
+}
+
+/// A tile that is alike goes through clears at once, and back over one by one.
+#[test]
+fn clears_are_gone_through_at_once(rt: HostRuntime) -> Result<(), Fail> {
+    let alloc = rt.alloc();
+    let table = clears_and_a_draw(alloc)?;
+    let mut owner = of_blank_tile(alloc, FOUR);
+    assert_eq!(rt; clear(&mut owner, &table)?, (0, 0));
+    forward(&mut owner, &table)?;
+    assert_eq!(rt; clear(&mut owner, &table)?, (5, 3));
+    assert!(rt; !owner.tile.is_made());
+    assert_eq!(rt; shown(&owner), (5, 12, (colour(3, 3, 3, 3), 7)));
+    forward(&mut owner, &table)?;
+    assert_eq!(rt; clear(&mut owner, &table)?, (6, 0));
+    back(&mut owner)?;
+    back(&mut owner)?;
+    assert_eq!(rt; shown(&owner), (4, 8, (colour(2, 2, 2, 2), 7)));
+    back(&mut owner)?;
+    assert_eq!(rt; shown(&owner), (3, 4, (colour(2, 2, 2, 2), 65535)));
+    back_to_start(&mut owner);
+    assert_eq!(rt; shown(&owner), (0, 0, (colour(0, 0, 0, 0), 65535)));
+    Ok(())
+}
+
 /// Goes back over all events at once.
 fn back_to_start(owner: &mut Owner) {
     owner.back_to(0);
@@ -357,7 +409,7 @@ fn expect_first_row(rt: &impl Abort, owner: &Owner, colours: &[Colour]) -> Resul
     if !owner.place().holds(0, 0) {
         return Err(Fail::from("no row"));
     }
-    assert_eq!(rt; owner.row(0), colours);
+    assert_eq!(rt; owner.row_from(0, 0).as_slice(), colours);
     Ok(())
 }
 

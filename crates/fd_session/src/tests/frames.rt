@@ -79,6 +79,16 @@ pub(crate) fn flat_at(
     draw_at(alloc, Interp::Flat, &[(corners, [colour; 3])], z)
 }
 
+/// Clears, each of its own grey behind a small draw. On 512 by 512 pixels each takes 1,049,087 ns with its draw by estimate.
+pub(crate) fn drawn_clears(alloc: Global, count: u8) -> Result<Vec<Event>, Fail> {
+    let mut events = Vec::new(alloc);
+    for level in 1..=count {
+        events.push(draw(alloc, Interp::Flat, &[(CLOCKWISE, [grey(0); 3])])?)?;
+        events.push(Event::Clear(grey(level)))?;
+    }
+    Ok(events)
+}
+
 pub(crate) fn blend(enable: bool, src: Factor, dst: Factor, bits: u8) -> Result<Event, Fail> {
     let op = BlendOp::Add;
     let alpha_src = Factor::One;

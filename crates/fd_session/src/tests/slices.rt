@@ -1,19 +1,16 @@
 //! Long moves, which go slice by slice.
-use crate::tests::frames::{Teller, expect_moved, expect_pixel, expect_refused, go, grey, session};
+use crate::tests::frames::{
+    Teller, drawn_clears, expect_moved, expect_pixel, expect_refused, go, grey, session,
+};
 use crate::{Session, SessionFault};
-use fd_events::Event;
 use std::alloc::Global;
 use std::process::Abort;
 use std::test::Fail;
 use std::thread::Threads;
 
-/// Clears of 512 by 512 pixels, each of its own grey, of 1,048,576 ns by estimate. With one worker a slice takes 60 ms, which are 58 of them.
+/// With one worker a slice takes 60 ms by estimate, which are 58 of these clears.
 fn clears(alloc: Global, count: u8) -> Result<Session, Fail> {
-    let mut events = Vec::new(alloc);
-    for level in 1..=count {
-        events.push(Event::Clear(grey(level)))?;
-    }
-    session(alloc, 512, 512, events, 1)
+    session(alloc, 512, 512, drawn_clears(alloc, count)?, 1)
 }
 
 /// Goes to a position.
@@ -40,14 +37,14 @@ fn refuse_to_go<R: Threads + Sync + Abort>(
 fn a_jump_is_told_slice_by_slice(rt: HostRuntime) -> Result<(), Fail> {
     let mut session = clears(rt.alloc(), 150)?;
     let mut teller = Teller::default();
-    go_telling(&rt, &mut session, 150, &mut teller);
-    assert_eq!(rt; (teller.times, teller.at, teller.to), (2, 116, 150));
+    go_telling(&rt, &mut session, 300, &mut teller);
+    assert_eq!(rt; (teller.times, teller.at, teller.to), (2, 232, 300));
     expect_pixel(&rt, &session, (511, 511), grey(150));
-    go_telling(&rt, &mut session, 7, &mut teller);
+    go_telling(&rt, &mut session, 14, &mut teller);
     expect_pixel(&rt, &session, (511, 511), grey(7));
-    refuse_to_go(&rt, &mut session, 151, &mut teller);
+    refuse_to_go(&rt, &mut session, 301, &mut teller);
     assert_eq!(rt; teller.times, 2);
-    go(&rt, &mut session, 150);
+    go(&rt, &mut session, 300);
     expect_pixel(&rt, &session, (511, 511), grey(150));
     Ok(())
 }

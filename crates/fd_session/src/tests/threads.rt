@@ -78,13 +78,13 @@ fn try_moves<R: Threads + Sync>(rt: &R, session: &mut Session, kind: Move, ended
     ended.store(1, Ordering::SeqCst);
 }
 
-/// All workers but one have threads of their own, beside the one that counts. A clear of this target is work for two.
+/// All workers but one have threads of their own, beside the one that counts. The last draw is work for two.
 #[test]
 fn each_move_has_the_workers_that_it_was_given(rt: HostRuntime) -> Result<(), Fail> {
     let own = thread_count(&rt);
     assert!(rt; own > 0);
     for (kind, opening, workers) in [
-        (Move::Step, 0, 2),
+        (Move::Step, 17, 2),
         (Move::Jump, 2, 4),
         (Move::Switch, 18, 4),
     ] {

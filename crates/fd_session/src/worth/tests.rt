@@ -4,7 +4,7 @@ use crate::estimate::Area;
 use crate::tests::frames::{colour, draw, flat};
 use crate::way::Way;
 use crate::worth::{MOVE_WORK, Slice, next_slice};
-use fd_cover::{Bounds, Interp};
+use fd_cover::{Bounds, Depth, Func, Interp};
 use fd_events::{Event, EventTable};
 use std::alloc::Global;
 use std::test::Fail;
@@ -41,22 +41,49 @@ fn work_decides_how_many_workers_start(rt: HostRuntime) -> Result<(), Fail> {
     let alloc = rt.alloc();
     let clear = Event::Clear(colour(1, 2, 3, 4));
     let small = flat(alloc, [(0, 0), (90, 0), (0, 90)], colour(1, 2, 3, 4))?;
-    let mut table = table(alloc, clear, small)?;
-    // the clear takes 2,097,152 ns, which is worth 16 workers, and the draw 36,360 ns, which is worth none
+    let mut table = table(alloc, small, clear)?;
+    // the draw takes 36,360 ns, which is worth no worker, and the clear of what was drawn 2,097,152 ns, which is worth 16
     for (from, to, workers, worth) in [
-        (0, 1, 64, 16),
+        (1, 2, 64, 16),
         (0, 2, 64, 16),
-        (0, 1, 8, 8),
-        (0, 1, 1, 1),
-        (1, 2, 64, 1),
+        (1, 2, 8, 8),
+        (1, 2, 1, 1),
+        (0, 1, 64, 1),
     ] {
         let slice = slice_of(&table, from, to, 512, workers);
         assert_eq!(rt; slice.workers, worth, "{from} to {to}");
         assert_eq!(rt; slice.end, to, "{from} to {to}");
     }
-    assert_eq!(rt; slice_of(&table, 0, 1, 3, 64).workers, 3);
-    table.set_on(1, false);
+    assert_eq!(rt; slice_of(&table, 1, 2, 3, 64).workers, 3);
+    table.set_on(2, false);
     assert_eq!(rt; slice_of(&table, 0, 2, 512, 64).workers, 1);
+    Ok(())
+}
+
+/// A clear of tiles that are alike takes 51,200 ns, and not 2,097,152.
+#[test]
+fn clears_of_what_is_alike_are_little_work(rt: HostRuntime) -> Result<(), Fail> {
+    let alloc = rt.alloc();
+    let first = Event::Clear(colour(1, 2, 3, 4));
+    let second = Event::Clear(colour(5, 6, 7, 8));
+    let table = table(alloc, first, second)?;
+    assert_eq!(rt; slice_of(&table, 0, 2, 512, 64).workers, 1);
+    Ok(())
+}
+
+/// Twenty triangles take 1,454,720 ns, which is worth eleven workers, but not where no depth passes the test.
+#[test]
+fn what_draws_nothing_is_little_work(rt: HostRuntime) -> Result<(), Fail> {
+    let alloc = rt.alloc();
+    let never = Event::SetDepth(Depth {
+        enable: true,
+        write: false,
+        func: Func::Never,
+    });
+    let mut table = table(alloc, never, over_one_another(alloc, 20)?)?;
+    assert_eq!(rt; slice_of(&table, 0, 2, 512, 64).workers, 1);
+    table.set_on(1, false);
+    assert_eq!(rt; slice_of(&table, 0, 2, 512, 64).workers, 11);
     Ok(())
 }
 
@@ -132,7 +159,7 @@ fn what_reaches_no_tile_is_no_work(rt: HostRuntime) -> Result<(), Fail> {
     Ok(())
 }
 
-/// The clear is alike on all 16 rows of tiles. The triangles lie in the box of the upper four, where each row takes 292,384 ns; there all four workers begin,
+/// The clear is the same on all 16 rows of tiles. The triangles lie in the box of the upper four, where each row takes 292,384 ns; there all four workers begin,
 /// each with a row, and the last one has the rows below as well.
 #[test]
 fn workers_begin_where_the_work_is(rt: HostRuntime) -> Result<(), Fail> {
@@ -144,20 +171,20 @@ fn workers_begin_where_the_work_is(rt: HostRuntime) -> Result<(), Fail> {
         Interp::Flat,
         &[(corners, [colour(1, 2, 3, 4); 3]); 2],
     )?;
-    let table = table(alloc, clear, upper)?;
-    let slice = next_slice(&Way::of(&table, 0, 1), 0, 4, MOVE_WORK);
-    assert!(rt; slice.firsts.as_slice() == [0, 128, 256, 384].as_slice());
+    let table = table(alloc, upper, clear)?;
     let slice = next_slice(&Way::of(&table, 1, 2), 1, 4, MOVE_WORK);
+    assert!(rt; slice.firsts.as_slice() == [0, 128, 256, 384].as_slice());
+    let slice = next_slice(&Way::of(&table, 0, 1), 0, 4, MOVE_WORK);
     assert!(rt; slice.firsts.as_slice() == [0, 32, 64, 96].as_slice());
     Ok(())
 }
 
-/// In a box of four rows of 16 tiles the clear takes 65,536 ns a row, which is worth two workers: they begin in its first and its third row, at its left edge.
+/// In a box of four rows of 16 tiles the clear behind the draw takes 65,536 ns a row, which is worth two workers: they begin in its first and its third row, at its left edge.
 #[test]
 fn workers_begin_inside_the_box(rt: HostRuntime) -> Result<(), Fail> {
     let alloc = rt.alloc();
     let clear = Event::Clear(colour(1, 2, 3, 4));
-    let table = table(alloc, clear, Event::Clear(colour(1, 2, 3, 4)))?;
+    let table = table(alloc, far_apart(alloc, 2)?, clear)?;
     let bounds = Bounds {
         left: 256,
         top: 128,
@@ -166,9 +193,9 @@ fn workers_begin_inside_the_box(rt: HostRuntime) -> Result<(), Fail> {
     };
     let way = Way {
         area: Area::round(&table, bounds),
-        ..Way::of(&table, 0, 1)
+        ..Way::of(&table, 1, 2)
     };
-    let slice = next_slice(&way, 0, 4, MOVE_WORK);
+    let slice = next_slice(&way, 1, 4, MOVE_WORK);
     assert!(rt; slice.firsts.as_slice() == [136, 200].as_slice());
     Ok(())
 }

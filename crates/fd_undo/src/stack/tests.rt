@@ -526,6 +526,24 @@ fn a_cleared_stack_is_as_a_new_one(rt: HostRuntime) -> Result<(), Fail> {
     Ok(())
 }
 
+/// Room is made for so many frames at once as are expected, but not for more than some.
+#[test]
+fn expected_frames_find_room(rt: HostRuntime) -> Result<(), Fail> {
+    let mut undo = UndoStack::new(rt.alloc());
+    undo.push_alike(SMALL, RED, 7)?;
+    undo.expect_alike(5);
+    expect_counts(&rt, &undo, 4, 1)?;
+    assert!(rt; undo.last.takes(Room::alike(5)));
+    assert!(rt; !undo.last.takes(Room::alike(6)));
+    undo.push_alike(SMALL, FRESH, 7)?;
+    expect_counts(&rt, &undo, 8, 2)?;
+    let mut many = UndoStack::new(rt.alloc());
+    many.expect_alike(1000);
+    assert!(rt; many.last.takes(Room::alike(16)));
+    assert!(rt; !many.last.takes(Room::alike(17)));
+    Ok(())
+}
+
 /// What half of the memory has room for stays for the next frames.
 #[test]
 fn a_cleared_stack_keeps_its_oldest_block(rt: HostRuntime) -> Result<(), Fail> {

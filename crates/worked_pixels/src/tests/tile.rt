@@ -48,12 +48,19 @@ fn has_row(tile: &Tile, y: u32) -> bool
     place.top <= y && y - place.top < place.height
 }
 
-/// Checks the colours of a row.
-fn expect_row(rt: &impl Abort, tile: &Tile, y: u32, colours: &[Colour]) -> Result<(), Fail> {
-    if !has_row(tile, y) {
-        return Err("a row of the tile".into());
+/// Checks the colours of a row that is five pixels wide, from each of its columns on.
+fn expect_row(rt: &impl Abort, tile: &Tile, y: u32, colours: &[Colour; 5]) -> Result<(), Fail> {
+    for column in 0..5 {
+        let x = tile.place().left.saturating_add(column);
+        if !tile.place().holds(x, y) {
+            return Err("a pixel of the tile".into());
+        }
+        assert_eq!(rt;
+            tile.row_from(x, y).as_slice(),
+            &colours[column as usize..],
+            "row {y} from {x}"
+        );
     }
-    assert_eq!(rt; tile.row(y), colours, "row {y}");
     Ok(())
 }
 

@@ -1,4 +1,4 @@
-use Rattle.std.proofs.Common.{◌≡◌, inl, inr, length, sym, subst}
+use Rattle.std.proofs.Common.{◌≡◌, length, sym, subst}
 use Rattle.fd_events.specs.declared.event.Event.{Event}
 use Rattle.fd_events.specs.declared.event.Event.TheVariants.{Draw}
 use Rattle.fd_events.specs.Draw.{triangles_of}
@@ -17,16 +17,25 @@ returns-then-is_shut c = λ _.
     let shut = c.is_shut.ensures c.if-is_shut.true in
     subst (λ (event : Event). WritesNothing event state place) (sym is) (nothing_passes draw state place shut.0 shut.1)
 
--- the scissor leaves nothing, or every triangle is culled
-pub returns-else-is_shut : goal.returns-else-is_shut
-returns-else-is_shut c = λ yes.
+-- every triangle is culled
+pub returns-then-is_culled : goal.returns-then-is_culled
+returns-then-is_culled c = λ _.
     let draw = c.in-Draw.draw.now in
     let is : c.args.event.now ≡ Draw draw = rw c.in-Draw.is at c.effect.ensures in
     let ts = triangles_of draw in
     let state = c.args.state.now in
     let place = c.args.place in
-    let nowhere : AreUnreached ts state place 0 (length ts) = elim (c.is_idle.ensures yes) [
-      | inl empty ↦ unreached_closed draw state place c.window_of-window.result c.window_of-window.ensures.window empty
-      | inr culled ↦ unreached_culled ts state place culled
-    ] in
+    let nowhere : AreUnreached ts state place 0 (length ts) = unreached_culled ts state place (c.is_culled.ensures c.if-is_culled.true) in
+    subst (λ (event : Event). WritesNothing event state place) (sym is) (nothing_unreached draw state place nowhere)
+
+-- the scissor leaves nothing, or the picture lies elsewhere
+pub returns-else-is_culled : goal.returns-else-is_culled
+returns-else-is_culled c = λ empty.
+    let draw = c.in-Draw.draw.now in
+    let is : c.args.event.now ≡ Draw draw = rw c.in-Draw.is at c.effect.ensures in
+    let ts = triangles_of draw in
+    let state = c.args.state.now in
+    let place = c.args.place in
+    let nowhere : AreUnreached ts state place 0 (length ts) = unreached_closed draw state place c.window_of.result c.window_of.ensures.window
+    (rw c.is_empty.ensures at empty) in
     subst (λ (event : Event). WritesNothing event state place) (sym is) (nothing_unreached draw state place nowhere)

@@ -43,24 +43,25 @@ loop-x-preserved g c =
     let y = c.loop-y.y in
     let x = c.loop-x.x in
     let gone = c.in_ok-make_room.ensures.ok in
-    let piece = c.row_from-piece.result.now in
+    let piece = c.row_from-piece.result.items in
     let height : c.height-height.result ≡ state.table.height = c.height-height.ensures.value ∙ ap (λ (t : Table). t.height) c.table-2.ensures in
     let width : c.width-width.result ≡ state.table.width = c.width-width.ensures.value ∙ ap (λ (t : Table). t.width) c.table.ensures in
     let row : y < state.table.height = omega (arith, c.loop-y-test.true, height) in
-    let added : c.add_tuples.new.chunk.items ≡ c.make_room.new.chunk.items ++ flat_map tuple piece = c.add_tuples.ensures in
+    let added : c.add_tuples.new.chunk.items ≡ c.make_room.new.chunk.items ++ flat_map tuple piece = rw c.deref.ensures.0 at c.add_tuples.ensures in
     record {
       text = inv.text ++ gone.0;
       appended = Appends-trans _ (g.W.Sink.contents c.loop-x.sink) _ inv.text gone.0 inv.appended gone.3;
       counted = omega (arith, gone.4, inv.counted, length-append inv.text gone.0);
-      so_far =
-          ap (λ xs. (inv.text ++ gone.0) ++ xs) added
+      so_far = rw c.len.ensures.value
+          (ap (λ xs. (inv.text ++ gone.0) ++ xs) added
           ∙ body_more state x y piece (inv.text ++ gone.0) c.make_room.new.chunk.items c.row_from-piece.ensures.inside row c.row_from-piece.ensures.colours
-          (still_so_far inv.text gone.0 c.make_room.new.chunk.items c.loop-x.chunk.items _ gone.1 inv.so_far);
-      within = omega (arith, width, c.row_from-piece.ensures.inside);
+          (still_so_far inv.text gone.0 c.make_room.new.chunk.items c.loop-x.chunk.items _ gone.1 inv.so_far));
+      within = omega (arith, width, c.len.ensures.value, c.row_from-piece.ensures.inside);
       short = omega (
         arith,
         gone.2,
-        c.row_from-piece.ensures.short,
+        c.len.ensures.fits,
+        c.len.ensures.value,
         ap length added,
         length-append c.make_room.new.chunk.items (flat_map tuple piece),
         length-tuples piece,

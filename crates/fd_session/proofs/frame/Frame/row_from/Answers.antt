@@ -8,9 +8,9 @@ use Rattle.fd_session.proofs.frame.Frame.row_from.Goals as goal
 
 pub returns-clause-colours : goal.returns-clause-colours
 returns-clause-colours c = λ table k each.
-    let owner = c.owner_of-owner.result.now in
+    let owner = c.owner_of.result.now in
     let shown : ℕ → Colour = λ column. colour_at table k column c.args.y in
-    let part = row_shows table k owner c.args.x c.args.y (c.owner_of-owner.ensures.shows table k each) c.owner_of-owner.ensures.holds
-    c.row.result.now c.row.ensures in
+    let part = row_shows table k owner c.args.x c.args.y (c.owner_of.ensures.shows table k each) c.owner_of.ensures.holds
+    c.row_from.result.items c.row_from.ensures.value in
     let long = ap length part ∙ length-map-range_with_len shown c.args.x (owner.place.left + owner.place.width - c.args.x) in
-    rw c.place.ensures.value (part ∙ ap (λ (n : ℕ). map shown (range_with_len c.args.x n)) (sym long))
+    part ∙ ap (λ (n : ℕ). map shown (range_with_len c.args.x n)) (sym long)

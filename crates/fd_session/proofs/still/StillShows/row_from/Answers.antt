@@ -8,7 +8,7 @@ use Rattle.fd_session.proofs.still.StillShows.row_from.Goals as goal
 
 pub returns-clause-colours : goal.returns-clause-colours
 returns-clause-colours c =
-    let row = c.row_from.result.now in
+    let row = c.row_from.result.items in
     let frame = c.self.inside.frame in
     let at = opening_position frame.owners.items in
     subst (λ (s : State). row ≡ map (λ column. colour_at s.table s.position column c.args.y) (range_with_len c.args.x (length row))) c.self.view_is

@@ -11,7 +11,6 @@ invariant_of-self-lent c w =
       placed = i.placed;
       counted = i.counted;
       deep_counted = λ _. vec_counted t.depths _ (i.deep_counted r.made);
-      one = i.one;
       one_colour = i.one_colour;
       one_depth = tt;
     }

@@ -1,4 +1,3 @@
-use Rattle.std.proofs.Common.{refl}
 use Rattle.fd_tile.proofs.Cut.{shown_filled, counted_filled}
 use Rattle.fd_tile.proofs.Rows.{IsFlat-replicate}
 use Rattle.fd_tile.proofs.tile.Tile.fill_colours.Goals as goal
@@ -11,8 +10,7 @@ invariant_of-self c =
       placed = i.placed;
       counted = counted_filled t.place t.made t.colours.items _ c.args.colour i.counted c.fill_all.ensures;
       deep_counted = i.deep_counted;
-      one = refl;
-      one_colour = λ _. IsFlat-replicate t.place c.args.colour _ (shown_filled t.place t.made t.colours.items _ c.args.colour i.counted c.fill_all.ensures);
+      one_colour = IsFlat-replicate t.place c.args.colour _ (shown_filled t.place t.made t.colours.items _ c.args.colour i.counted c.fill_all.ensures);
       one_depth = i.one_depth;
     }
 

@@ -10,7 +10,6 @@ invariant_of-self c =
       placed = i.placed;
       counted = i.counted;
       deep_counted = counted_filled t.place t.made t.depths.items _ c.args.depth i.deep_counted c.fill_all.ensures;
-      one = i.one;
       one_colour = i.one_colour;
       one_depth = IsFlat-replicate t.place c.args.depth _ (shown_filled t.place t.made t.depths.items _ c.args.depth i.deep_counted c.fill_all.ensures);
     }

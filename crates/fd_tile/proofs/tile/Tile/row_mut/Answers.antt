@@ -1,5 +1,4 @@
 use Rattle.std.proofs.Common.{refl}
-use Rattle.std.proofs.lemmas.Bool.{false≢true}
 use Rattle.fd_tile.proofs.Cut.{row_read, vec_rows_left, vec_counted}
 use Rattle.fd_tile.proofs.tile.Tile.row_mut.Goals as goal
 
@@ -12,8 +11,7 @@ invariant_of-self-lent c w =
       placed = i.placed;
       counted = λ _. vec_counted t.colours _ (i.counted r.made);
       deep_counted = i.deep_counted;
-      one = i.one;
-      one_colour = λ e. absurd (false≢true e);
+      one_colour = tt;
       one_depth = i.one_depth;
     }
 

@@ -1,4 +1,3 @@
-use Rattle.std.proofs.Common.{◌∷◌, []}
 use Rattle.fd_undo.proofs.Pixelwise.{zip-replicate}
 use Rattle.fd_undo.proofs.span_lists.SpanLists.keep_alike.Goals as goal
 
