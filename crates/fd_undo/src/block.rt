@@ -15,13 +15,13 @@ use crate::span_lists::SpanLists;
 use crate::span_slices::{Cut, SpanSlices};
 use crate::whole::have_all_rows;
 use fd_blend::Colour;
-use fd_memory::{boxed, small_room};
+use fd_memory::small_room;
 use fd_tile::Place;
 use smallvec::SmallVec;
 use std::alloc::{AllocError, Global};
 use std::marker::Model;
 
-/// So many marks stand in the block's lists themselves, and more in memory of their own.
+/// So many marks stand in the block itself, and more in memory of their own.
 const MARKS_INSIDE: usize = 4;
 
 /// Where the frame of a number begins in its block: its first span, its first colour and its first depth.
@@ -48,35 +48,29 @@ impl Mark {
     }
 }
 
-/// Where each frame of a block begins, and what all of them keep.
+/// Frames that follow one another, in lists that were made with room and never grow.
 #[derive(Drop)]
-struct Body {
+pub(crate) struct Block {
     marks: SmallVec<Mark, MARKS_INSIDE>,
     lists: SpanLists,
 }
 
-/// Frames that follow one another, in lists that were made with room and never grow. They stand behind a pointer, so that a tile without frames is small.
-#[derive(Drop)]
-pub(crate) struct Block {
-    body: Option<Box<Body>>,
-}
-
 impl Model for Block {
-    ghost use Rattle.std.specs.Prelude.{◌-◌, length, option_map, unwrap_or, IfSome};
+    ghost use Rattle.std.specs.Prelude.{◌-◌, length};
     ghost use Rattle.fd_undo.specs.Rows.{rows_of};
-    ghost use Rattle.fd_undo.specs.Block.{Filled, marked, marks_left, AreInOrder, no_block};
+    ghost use Rattle.fd_undo.specs.Block.{Filled, marked, marks_left, AreInOrder};
 
     ghost Value = { Filled };
 
-    ghost view = { λ b. unwrap_or (option_map (λ p. record {
-      frames = marked p.value.marks.items (rows_of p.value.lists) (length p.value.lists.spans);
-      frames_left = marks_left p.value.lists (p.value.marks.capacity - length p.value.marks.items);
-      spans_left = p.value.lists.spans_left;
-      colours_left = p.value.lists.colours_left;
-      depths_left = p.value.lists.depths_left;
-    }) b.body) no_block };
+    ghost view = { λ b. record {
+      frames = marked b.marks.items (rows_of b.lists) (length b.lists.spans);
+      frames_left = marks_left b.lists (b.marks.capacity - length b.marks.items);
+      spans_left = b.lists.spans_left;
+      colours_left = b.lists.colours_left;
+      depths_left = b.lists.depths_left;
+    } };
 
-    ghost invariant = { λ b. IfSome b.body (λ p. AreInOrder p.value.marks.items p.value.lists.spans (length p.value.lists.spans)) };
+    ghost invariant = { λ b. AreInOrder b.marks.items b.lists.spans (length b.lists.spans) };
 }
 
 impl Block {
@@ -87,20 +81,20 @@ impl Block {
             × (room.colours ≤ b.colours_left) × (room.depths ≤ b.depths_left)) }
         ensures wanted { OnErr result Wanted }
     {
-        let body = Body {
+        Ok(Block {
             marks: small_room(alloc, room.frames)?,
             lists: SpanLists::with_room(alloc, room)?,
-        };
-        Ok(Block {
-            body: Some(boxed(alloc, body)?),
         })
     }
 
-    /// A block without frames and without room, which takes no memory.
-    pub(crate) fn empty() -> Block
+    /// A block without frames and without room for pixels, which takes no memory.
+    pub(crate) fn empty(alloc: Global) -> Block
         ensures { result.frames ≡ [] }
     {
-        Block { body: None }
+        Block {
+            marks: SmallVec::new(alloc),
+            lists: SpanLists::empty(alloc),
+        }
     }
 
     /// Whether it has no frame.
@@ -109,10 +103,7 @@ impl Block {
         ensures yes { result ≡ true → self.now.frames ≡ [] }
         ensures no { result ≡ false → 0 < length self.now.frames }
     {
-        match &self.body {
-            Some(body) => body.marks.is_empty(),
-            None => true,
-        }
+        self.marks.is_empty()
     }
 
     /// Whether one more frame of so many spans, colours and depths has room.
@@ -120,24 +111,16 @@ impl Block {
         ensures { result ≡ true → (0 < self.now.frames_left) × (more.spans ≤ self.now.spans_left)
             × (more.colours ≤ self.now.colours_left) × (more.depths ≤ self.now.depths_left) }
     {
-        match &self.body {
-            Some(body) => {
-                body.marks.len() < body.marks.capacity()
-                    && is_countable(&body.lists)
-                    && body.lists.takes(more)
-            }
-            None => false,
-        }
+        self.marks.len() < self.marks.capacity()
+            && is_countable(&self.lists)
+            && self.lists.takes(more)
     }
 
     /// How many frames, spans, colours and depths it holds.
     pub(crate) fn held(&self) -> Room {
-        let Some(body) = &self.body else {
-            return Room::NONE;
-        };
-        let end = body.lists.end();
+        let end = self.lists.end();
         Room {
-            frames: body.marks.len(),
+            frames: self.marks.len(),
             spans: end.span,
             colours: end.colour,
             depths: end.depth,
@@ -146,10 +129,7 @@ impl Block {
 
     /// For how many colours it has room, those that it holds among them.
     pub(crate) fn room(&self) -> usize {
-        match &self.body {
-            Some(body) => body.lists.room(),
-            None => 0,
-        }
+        self.lists.room()
     }
 
     /// The number of the newest frame.
@@ -159,18 +139,14 @@ impl Block {
         ensures value { result ≡ (newest self.now.frames).number }
         ensures small { result < 2 ^ 32 }
     {
-        let body = self.body.as_ref().unwrap();
-        newest_mark(body.marks.as_slice()).number as usize
+        newest_mark(self.marks.as_slice()).number as usize
     }
 
     /// The number of the oldest frame, or 0.
     pub(crate) fn first_number(&self) -> usize
         ensures { result ≡ first_number self.now.frames }
     {
-        let Some(body) = &self.body else {
-            return 0;
-        };
-        match body.marks.as_slice() {
+        match self.marks.as_slice() {
             [] => 0,
             [mark, ..] => mark.number as usize,
         }
@@ -186,16 +162,14 @@ impl Block {
         ensures colours_left { self.new.colours_left ≡ self.old.colours_left }
         ensures depths_left { self.new.depths_left ≡ self.old.depths_left }
     {
-        if let Some(body) = &mut self.body {
-            let end = body.lists.end();
-            let mark = Mark {
-                number: number as u32,
-                span: end.span as u32,
-                colour: end.colour as u32,
-                depth: end.depth as u32,
-            };
-            body.marks.push_reserved(mark);
-        }
+        let end = self.lists.end();
+        let mark = Mark {
+            number: number as u32,
+            span: end.span as u32,
+            colour: end.colour as u32,
+            depth: end.depth as u32,
+        };
+        self.marks.push_reserved(mark);
     }
 
     /// Keeps the colours and the depths of row y from column x on in the newest frame, where it may be known that all depths are this one.
@@ -221,11 +195,9 @@ impl Block {
         ensures colours_left { self.old.colours_left ≤ self.new.colours_left + length old.now }
         ensures depths_left { self.old.depths_left ≤ self.new.depths_left + length depths.now }
     {
+        let first = newest_mark(self.marks.as_slice()).span as usize;
         let row = Span::of(x, y, old, depths, known);
-        if let Some(body) = &mut self.body {
-            let first = newest_mark(body.marks.as_slice()).span as usize;
-            body.lists.keep(first, row, old, depths);
-        }
+        self.lists.keep(first, row, old, depths);
     }
 
     /// The same of a place, whose colours and depths stand row after row.
@@ -250,9 +222,7 @@ impl Block {
         ensures colours_left { self.old.colours_left ≤ self.new.colours_left + length old.now }
         ensures depths_left { self.old.depths_left ≤ self.new.depths_left + length depths.now }
     {
-        if let Some(body) = &mut self.body {
-            body.lists.keep_place(place, old, depths, known);
-        }
+        self.lists.keep_place(place, old, depths, known);
     }
 
     /// Keeps a whole place in the newest frame, which is of one colour and one depth.
@@ -264,9 +234,7 @@ impl Block {
         requires colours { 0 < self.old.colours_left }
         ensures { self.new.frames ≡ keeping_row self.old.frames (alike place (colour, depth)) }
     {
-        if let Some(body) = &mut self.body {
-            body.lists.keep_alike(place, colour, depth);
-        }
+        self.lists.keep_alike(place, colour, depth);
     }
 
     /// Drops the newest frame, unread, and says how many pixels it kept.
@@ -277,23 +245,16 @@ impl Block {
         ensures pixels { result ≡ length (newest self.old.frames).kept }
         ensures frames { self.new.frames ≡ others self.old.frames }
     {
-        match &mut self.body {
-            Some(body) => {
-                let mark = take_last(&mut body.marks);
-                body.lists.drop_from(mark.cut())
-            }
-            None => 0,
-        }
+        let mark = take_last(&mut self.marks);
+        self.lists.drop_from(mark.cut())
     }
 
     /// Drops all frames, unread. Their room stays.
     pub(crate) fn drop_all(&mut self)
         ensures { self.new.frames ≡ [] }
     {
-        if let Some(body) = &mut self.body {
-            body.marks.truncate(0);
-            body.lists.drop_all();
-        }
+        self.marks.truncate(0);
+        self.lists.drop_all();
     }
 
     /// The number of the oldest frame from this number on that is seen to keep a whole place.
@@ -302,7 +263,7 @@ impl Block {
         requires rise { (count : ℕ) × Rise 0 self.now.frames count }
         ensures { IfSome result (λ n. (from ≤ n) × KeepsAll place (found n self.now.frames)) }
     {
-        let marks = self.body.as_ref()?.marks.as_slice();
+        let marks = self.marks.as_slice();
         let first = marks.partition_point(|mark| (mark.number as usize) < from);
         for at in first..marks.len() {
             let number = mark_at(marks, at).number as usize;
@@ -321,7 +282,7 @@ impl Block {
         ensures there { IfSome result (λ slices. kept_in_slices slices ≡ found number self.now.frames) }
         ensures absent { result ≡ None → found number self.now.frames ≡ [] }
     {
-        let place = place_of(self.body.as_ref()?.marks.as_slice(), number)?;
+        let place = place_of(self.marks.as_slice(), number)?;
         Some(self.slices_at(place))
     }
 
@@ -332,7 +293,7 @@ impl Block {
         ensures whole { AreSpanSlices result }
         ensures there { kept_in_slices result ≡ (newest self.now.frames).kept }
     {
-        self.slices_at(self.body.as_ref().unwrap().marks.len() - 1)
+        self.slices_at(self.marks.len() - 1)
     }
 
     /// The same of the frame at a place.
@@ -342,10 +303,9 @@ impl Block {
         ensures whole { AreSpanSlices result }
         ensures there { kept_in_slices result ≡ (slice_index_or self.now.frames place no_frame).kept }
     {
-        let body = self.body.as_ref().unwrap();
-        let marks = body.marks.as_slice();
-        let end = end_of(marks, place, &body.lists);
-        body.lists.slices(mark_at(marks, place).cut(), end)
+        let marks = self.marks.as_slice();
+        let end = end_of(marks, place, &self.lists);
+        self.lists.slices(mark_at(marks, place).cut(), end)
     }
 }
 

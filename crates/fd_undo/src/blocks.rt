@@ -86,7 +86,7 @@ impl Blocks {
             return None;
         }
         self.count -= 1;
-        Some(take_from(&mut self.seats, self.count))
+        Some(take_from(self.alloc, &mut self.seats, self.count))
     }
 
     /// The next block from an earlier way forward, without frames, if it has room for a frame that needs so much.
@@ -100,7 +100,7 @@ impl Blocks {
         if seat >= self.seats.len() {
             return None;
         }
-        let mut spare = take_from(&mut self.seats, seat);
+        let mut spare = take_from(self.alloc, &mut self.seats, seat);
         spare.drop_all();
         if spare.takes(needed) {
             Some(spare)
@@ -122,22 +122,22 @@ impl Blocks {
         self.seats.truncate(first_within(&self.seats, room / 2));
         self.count = 0;
         *last = if self.seats.is_empty() {
-            Block::empty()
+            Block::empty(self.alloc)
         } else {
-            take_from(&mut self.seats, 0)
+            take_from(self.alloc, &mut self.seats, 0)
         };
         last.drop_all();
     }
 }
 
 /// The block of a seat, which is empty then.
-fn take_from(seats: &mut Vec<Block>, seat: usize) -> Block
+fn take_from(alloc: Global, seats: &mut Vec<Block>, seat: usize) -> Block
     requires { seat < length seats.old.items }
     ensures long { length seats.new.items ≡ length seats.old.items }
     ensures taken { take (seat + 1) seats.old.items ≡ take seat seats.old.items ++ result ∷ [] }
     ensures below { (n : ℕ) → n ≤ seat → take n seats.new.items ≡ take n seats.old.items }
 {
-    mem::replace(&mut seats[seat], Block::empty())
+    mem::replace(&mut seats[seat], Block::empty(alloc))
 }
 
 /// For how many colours some blocks have room.

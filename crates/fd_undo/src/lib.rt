@@ -12,4 +12,5 @@ mod span;
 mod span_lists;
 mod span_slices;
 mod stack;
+mod store;
 mod whole;

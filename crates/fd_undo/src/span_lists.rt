@@ -63,6 +63,17 @@ impl SpanLists {
         })
     }
 
+    /// No spans, and no room for pixels, which takes no memory.
+    pub(crate) fn empty(alloc: Global) -> SpanLists
+        ensures { (result.spans ≡ []) × (result.colours ≡ []) × (result.depths ≡ []) }
+    {
+        SpanLists {
+            spans: SmallVec::new(alloc),
+            colours: Vec::new(alloc),
+            depths: Vec::new(alloc),
+        }
+    }
+
     /// Whether so many more spans, colours and depths have room.
     pub(crate) fn takes(&self, more: Room) -> bool
         ensures { result ≡ true → (more.spans ≤ self.now.spans_left) × (more.colours ≤ self.now.colours_left) × (more.depths ≤ self.now.depths_left) }

@@ -1,7 +1,6 @@
 ghost use Rattle.std.specs.Prelude.{◌≡◌, ◌<◌, ◌≤◌, IsTrue, All, length, true, false};
 ghost use Rattle.fd_tile.specs.Place.{HasRow, Holds};
 
-use super::new_block;
 use crate::UndoStack;
 use crate::room::Room;
 use fd_blend::Colour;
@@ -224,7 +223,7 @@ fn a_frame_without_pixels_stores_nothing(rt: HostRuntime) -> Result<(), Fail> {
     let mut undo = UndoStack::new(rt.alloc());
     begin(&mut undo, 0, 0)?;
     assert_eq!(rt; undo.frames(), 1);
-    let held = undo.last.held();
+    let held = undo.store.held();
     assert_eq!(rt; (held.frames, held.spans, held.colours), (0, 0, 0));
     Ok(())
 }
@@ -234,7 +233,7 @@ fn frames_that_are_forgotten_keep_nothing(rt: HostRuntime) -> Result<(), Fail> {
     let mut undo = with_two_frames(rt.alloc())?;
     undo.forget();
     expect_counts(&rt, &undo, 0, 2)?;
-    assert!(rt; undo.last.is_empty());
+    assert_eq!(rt; undo.store.held().frames, 0);
     begin(&mut undo, 1, 1)?;
     keep(&mut undo, 1, 1, &[FRESH], &[DEEP])?;
     expect_kept(&rt, &undo, 1, (0, 0, 0), None);
@@ -291,7 +290,7 @@ fn equal_colours_are_kept_once(rt: HostRuntime) -> Result<(), Fail> {
     begin(&mut undo, 2, 5)?;
     keep(&mut undo, 0, 0, &[RED, RED, RED], &[DEEP, 7, DEEP])?;
     keep(&mut undo, 0, 1, &[RED, FRESH], &[DEEP, DEEP])?;
-    assert_eq!(rt; undo.last.held().colours, 3);
+    assert_eq!(rt; undo.store.held().colours, 3);
     expect_counts(&rt, &undo, 5, 1)?;
     expect_kept(&rt, &undo, 0, (1, 0, 0), Some((RED, 7)));
     expect_kept(&rt, &undo, 0, (1, 1, 0), Some((FRESH, DEEP)));
@@ -303,9 +302,9 @@ fn equal_depths_are_kept_once(rt: HostRuntime) -> Result<(), Fail> {
     let mut undo = UndoStack::new(rt.alloc());
     begin(&mut undo, 2, 5)?;
     keep(&mut undo, 0, 0, &[RED, RED, RED], &[DEEP, DEEP, DEEP])?;
-    assert_eq!(rt; undo.last.held().depths, 0);
+    assert_eq!(rt; undo.store.held().depths, 0);
     keep(&mut undo, 0, 1, &[RED, RED], &[DEEP, 7])?;
-    assert_eq!(rt; undo.last.held().depths, 2);
+    assert_eq!(rt; undo.store.held().depths, 2);
     expect_kept(&rt, &undo, 0, (2, 0, 0), Some((RED, DEEP)));
     expect_kept(&rt, &undo, 0, (1, 1, 0), Some((RED, 7)));
     Ok(())
@@ -346,16 +345,19 @@ fn rows_that_are_alike_are_one_span(rt: HostRuntime) -> Result<(), Fail> {
     small.keep(0, 0, &[RED, RED], &[7, 7])?;
     small.keep(0, 1, &[RED, RED], &[7, 7])?;
     assert_eq!(rt;
-        (small.undo.last.held().spans, small.undo.last.held().colours),
+        (
+            small.undo.store.held().spans,
+            small.undo.store.held().colours
+        ),
         (1, 1)
     );
     small.keep(0, 1, &[RED, RED], &[7, 7])?;
-    assert_eq!(rt; small.undo.last.held().spans, 2);
+    assert_eq!(rt; small.undo.store.held().spans, 2);
     small.begin(3, 4)?;
     small.keep(0, 0, &[RED], &[7])?;
     small.keep(0, 1, &[FRESH], &[7])?;
     small.keep(1, 0, &[FRESH], &[8])?;
-    assert_eq!(rt; small.undo.last.held().spans, 5);
+    assert_eq!(rt; small.undo.store.held().spans, 5);
     expect_counts(&rt, &small.undo, 9, 2)?;
     expect_kept(&rt, &small.undo, 0, (1, 1, 1), Some((RED, 7)));
     expect_kept(&rt, &small.undo, 0, (1, 1, 2), None);
@@ -375,10 +377,10 @@ fn listed_rows_are_one_span(rt: HostRuntime) -> Result<(), Fail> {
     small.begin(3, 6)?;
     small.keep(0, 0, &[RED, FRESH], &[7, 8])?;
     small.keep(0, 1, &[FRESH, RED], &[9, 7])?;
-    let held = small.undo.last.held();
+    let held = small.undo.store.held();
     assert_eq!(rt; (held.spans, held.colours, held.depths), (1, 4, 4));
     small.keep(0, 1, &[RED, RED], &[8, 9])?;
-    assert_eq!(rt; small.undo.last.held().spans, 2);
+    assert_eq!(rt; small.undo.store.held().spans, 2);
     expect_counts(&rt, &small.undo, 6, 1)?;
     expect_kept(&rt, &small.undo, 0, (1, 1, 0), Some((RED, 7)));
     expect_kept(&rt, &small.undo, 0, (0, 1, 1), Some((RED, 8)));
@@ -403,12 +405,12 @@ fn with_two_blocks(alloc: Global) -> Result<UndoStack, Fail> {
 #[test]
 fn blocks_are_given_back(rt: HostRuntime) -> Result<(), Fail> {
     let mut undo = with_two_blocks(rt.alloc())?;
-    assert_eq!(rt; undo.full.as_slice().len(), 1);
+    assert_eq!(rt; undo.store.held().frames, 1);
     expect_kept(&rt, &undo, 0, (0, 0, 0), Some((FRESH, DEEP)));
     expect_kept(&rt, &undo, 1, (1, 1, 0), Some((RED, 7)));
     expect_kept(&rt, &undo, 1, (0, 0, 0), None);
     undo.forget();
-    assert!(rt; !undo.last.takes(Room::needed(1, 1)));
+    assert!(rt; !undo.store.takes(Room::needed(1, 1)));
     Ok(())
 }
 
@@ -420,10 +422,12 @@ fn a_block_without_frames_is_given_back(rt: HostRuntime) -> Result<(), Fail> {
     small.begin(1, 1000)?;
     small.keep(1, 1, &[RED], &[7])?;
     small.undo_top()?;
-    assert!(rt; small.undo.full.as_slice().is_empty());
-    assert_eq!(rt; small.undo.last.held().frames, 1);
+    assert_eq!(rt;
+        (small.undo.frames(), small.undo.store.held().frames),
+        (1, 1)
+    );
     small.undo_top()?;
-    assert!(rt; !small.undo.last.takes(Room::needed(1, 1)));
+    assert!(rt; !small.undo.store.takes(Room::needed(1, 1)));
     expect_counts(&rt, &small.undo, 0, 0)?;
     expect_colours(&rt, &small.tile, 1, &[FRESH, RED])?;
     expect_depths(&rt, &small.tile, 1, &[DEEP, 7])?;
@@ -436,9 +440,9 @@ fn room_that_is_left_is_used(rt: HostRuntime) -> Result<(), Fail> {
     begin(&mut undo, 1, 64)?;
     keep(&mut undo, 0, 0, &[RED, FRESH], &[7, 8])?;
     undo.reserve(1, 126)?;
-    assert!(rt; undo.full.as_slice().is_empty());
+    assert_eq!(rt; undo.store.held().frames, 1);
     undo.reserve(1, 127)?;
-    assert_eq!(rt; undo.full.as_slice().len(), 1);
+    assert_eq!(rt; undo.store.held().frames, 0);
     Ok(())
 }
 
@@ -451,10 +455,10 @@ fn a_whole_place_is_put_back(rt: HostRuntime) -> Result<(), Fail> {
     small.push_alike(RED, DEEP)?;
     small.tile.fill_depths(7);
     expect_counts(&rt, &small.undo, 8, 2)?;
-    assert_eq!(rt; small.undo.full.as_slice().len(), 1);
-    assert_eq!(rt; small.undo.last.held().spans, 1);
-    assert_eq!(rt; small.undo.last.held().colours, 1);
-    assert_eq!(rt; small.undo.last.held().depths, 0);
+    assert_eq!(rt; small.undo.store.held().frames, 1);
+    assert_eq!(rt; small.undo.store.held().spans, 1);
+    assert_eq!(rt; small.undo.store.held().colours, 1);
+    assert_eq!(rt; small.undo.store.held().depths, 0);
     expect_kept(&rt, &small.undo, 1, (1, 1, 0), Some((RED, DEEP)));
     expect_kept(&rt, &small.undo, 1, (1, 1, 1), None);
     small.undo_top()?;
@@ -522,7 +526,7 @@ fn a_cleared_stack_is_as_a_new_one(rt: HostRuntime) -> Result<(), Fail> {
     undo.push_alike(SMALL, FRESH, DEEP)?;
     undo.clear();
     expect_counts(&rt, &undo, 0, 0)?;
-    assert!(rt; !undo.last.takes(Room::needed(1, 1)));
+    assert!(rt; !undo.store.takes(Room::needed(1, 1)));
     Ok(())
 }
 
@@ -533,14 +537,14 @@ fn expected_frames_find_room(rt: HostRuntime) -> Result<(), Fail> {
     undo.push_alike(SMALL, RED, 7)?;
     undo.expect_alike(5);
     expect_counts(&rt, &undo, 4, 1)?;
-    assert!(rt; undo.last.takes(Room::alike(5)));
-    assert!(rt; !undo.last.takes(Room::alike(6)));
+    assert!(rt; undo.store.takes(Room::alike(5)));
+    assert!(rt; !undo.store.takes(Room::alike(6)));
     undo.push_alike(SMALL, FRESH, 7)?;
     expect_counts(&rt, &undo, 8, 2)?;
     let mut many = UndoStack::new(rt.alloc());
     many.expect_alike(1000);
-    assert!(rt; many.last.takes(Room::alike(16)));
-    assert!(rt; !many.last.takes(Room::alike(17)));
+    assert!(rt; many.store.takes(Room::alike(16)));
+    assert!(rt; !many.store.takes(Room::alike(17)));
     Ok(())
 }
 
@@ -554,31 +558,16 @@ fn a_cleared_stack_keeps_its_oldest_block(rt: HostRuntime) -> Result<(), Fail> {
     keep(&mut undo, 0, 0, &[RED], &[DEEP])?;
     undo.clear();
     expect_counts(&rt, &undo, 0, 0)?;
-    assert!(rt; undo.last.takes(Room::needed(1, 67)));
-    assert!(rt; !undo.last.takes(Room::needed(1, 68)));
+    assert!(rt; undo.store.takes(Room::needed(1, 67)));
+    assert!(rt; !undo.store.takes(Room::needed(1, 68)));
     Ok(())
 }
 
 #[test]
-fn few_spans_take_no_memory(rt: HostRuntime) -> Result<(), Fail> {
+fn few_spans_have_room_in_a_block_itself(rt: HostRuntime) -> Result<(), Fail> {
     let mut undo = UndoStack::new(rt.alloc());
     undo.reserve(8, 0)?;
-    assert!(rt; undo.last.takes(Room::needed(8, 0)));
-    assert!(rt; !undo.last.takes(Room::needed(9, 0)));
-    Ok(())
-}
-
-#[test]
-fn a_smaller_block_will_do(rt: HostRuntime) -> Result<(), Fail> {
-    let needed = Room::needed(1, 3);
-    let wanted = Room {
-        frames: 1,
-        spans: 1,
-        colours: usize::MAX,
-        depths: 3,
-    };
-    let block = new_block(rt.alloc(), wanted, needed)?;
-    assert!(rt; block.takes(Room::needed(1, 3)));
-    assert!(rt; !block.takes(Room::needed(1, 4)));
+    assert!(rt; undo.store.takes(Room::needed(8, 0)));
+    assert!(rt; !undo.store.takes(Room::needed(9, 0)));
     Ok(())
 }

@@ -9,7 +9,7 @@ pub loop-self-init : goal.loop-self-init
 loop-self-init c = grind (arith, common_steps, length-frames, drop_of_length-le)
 
 pub loop-self-smaller : goal.loop-self-smaller
-loop-self-smaller c = grind (arith, goes c.is_stored.new.full.items c.is_stored.new.last c.loop-self.invariant.left)
+loop-self-smaller c = grind (arith, goes c.is_stored.new.self.full c.is_stored.new.self.last c.loop-self.invariant.left)
 
 pub loop-self-preserved : goal.loop-self-preserved
-loop-self-preserved c = grind (arith, goes c.is_stored.new.full.items c.is_stored.new.last c.loop-self.invariant.left)
+loop-self-preserved c = grind (arith, goes c.is_stored.new.self.full c.is_stored.new.self.last c.loop-self.invariant.left)

@@ -6,6 +6,6 @@ use Rattle.fd_undo.proofs.stack.UndoStack.oldest_whole.Goals as goal
 
 pub returns : goal.returns
 returns c =
-    let stored = all_stored c.self.inside.full.items c.self.inside.last in
+    let stored = all_stored c.self.inside.store.full c.self.inside.store.last in
     whole_frame stored c.self.inside.count c.args.self.now.frames c.args.from c.args.place c.oldest_whole.result c.self.invariant.rise
-    (ap (λ (u : Undo). u.frames) c.self.view_is) c.requires (rw c.as_slice.ensures at c.oldest_whole.ensures)
+    (ap (λ (u : Undo). u.frames) c.self.view_is) c.requires c.oldest_whole.ensures

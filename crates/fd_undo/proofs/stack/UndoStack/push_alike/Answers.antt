@@ -7,12 +7,12 @@ use Rattle.fd_undo.proofs.stack.UndoStack.push_alike.Goals as goal
 
 pub invariant_of-self-2 : goal.invariant_of-self-2
 invariant_of-self-2 c =
-    let low = stored_in c.make_room.new.full.items in
-    let rises = pushed_rises low c.make_room.new.last.frames c.push_place.new.last.frames in
-    grind (arith, rises, pushed_pixels low c.make_room.new.last.frames c.push_place.new.last.frames, length-alike)
+    let low = stored_in c.make_room.new.self.full in
+    let rises = pushed_rises low c.make_room.new.self.last.frames c.push_alike.new.self.last.frames in
+    grind (arith, rises, pushed_pixels low c.make_room.new.self.last.frames c.push_alike.new.self.last.frames, length-alike)
 
 pub returns-then-self-clause-wanted : goal.returns-then-self-clause-wanted
 returns-then-self-clause-wanted c less =
-    let long = length-frames 0 (all_stored c.self.inside.full.items c.self.inside.last) c.self.inside.count c.self.invariant.rise in
+    let long = length-frames 0 (all_stored c.self.inside.store.full c.self.inside.store.last) c.self.inside.count c.self.invariant.rise in
     let same = ap (λ (u : Undo). length u.frames) c.self.view_is in
     absurd (omega (arith, less, long, same, c.if-self.true))

@@ -9,21 +9,21 @@ use Rattle.fd_undo.proofs.stack.UndoStack.put_back_to.Goals.{After-is_stored}
 
 -- the newest stored frame goes
 top : (c : After-is_stored) → c.is_stored.result ≡ true
-    → Goes c.args.to c.args.self.now.frames c.is_stored.new.full.items c.is_stored.new.last c.loop-self.self-inside.count c.loop-self.self-inside.recorded
+    → Goes c.args.to c.args.self.now.frames c.is_stored.new.self.full c.is_stored.new.self.last c.loop-self.self-inside.count c.loop-self.self-inside.recorded
 top c is =
-    goes c.is_stored.new.full.items c.is_stored.new.last c.loop-self.invariant.left c.is_stored.ensures.same (c.is_stored.ensures.yes is)
+    goes c.is_stored.new.self.full c.is_stored.new.self.last c.loop-self.invariant.left c.is_stored.ensures.same (c.is_stored.ensures.yes is)
 
 pub put_frame-requires-clause-inside : goal.put_frame-requires-clause-inside
 put_frame-requires-clause-inside c =
     let t = top (goal.at-put_frame-requires-clause-inside c).After-is_stored c.loop-self-test.true in
     rw (c.newest_slices.ensures.there, t.own, c.loop-self.invariant.tile, all_restored-place)
-    (c.requires.inside (newest c.is_stored.new.last.frames).number t.left.least t.within)
+    (c.requires.inside (newest c.is_stored.new.self.last.frames).number t.left.least t.within)
 
 pub put_frame-requires-clause-alike : goal.put_frame-requires-clause-alike
 put_frame-requires-clause-alike c =
     let t = top (goal.at-put_frame-requires-clause-alike c).After-is_stored c.loop-self-test.true in
     rw (c.newest_slices.ensures.there, t.own, c.loop-self.invariant.tile, all_restored-place, all_restored-made)
-    (λ not. c.requires.alike not (newest c.is_stored.new.last.frames).number t.left.least t.within)
+    (λ not. c.requires.alike not (newest c.is_stored.new.self.last.frames).number t.left.least t.within)
 
 pub loop-self-init : goal.loop-self-init
 loop-self-init c = grind (arith, common_steps, length-frames, drop_of_length-le)

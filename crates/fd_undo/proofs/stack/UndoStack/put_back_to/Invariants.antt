@@ -1,14 +1,13 @@
 use Rattle.std.proofs.Common.{◌≡◌, drop}
 use Rattle.fd_undo.specs.Frame.{all_restored}
-use Rattle.fd_undo.specs.Stack.{all_stored, HaveFrames}
+use Rattle.fd_undo.specs.Stack.{all_stored}
 use Rattle.fd_undo.proofs.Backs.{IsLeft}
 use Rattle.fd_undo.proofs.stack.UndoStack.put_back_to.Given as goal
 
 abbrev pub invariant-loop-self : goal.invariant-loop-self
 invariant-loop-self l = record {
-  have : HaveFrames l.self-inside.full.items;
   fresh : l.self-inside.opens_fresh ≡ l.fn.self.opens_fresh;
-  left : IsLeft l.to l.fn.self.frames (all_stored l.self-inside.full.items l.self-inside.last) l.self-inside.count l.self-inside.recorded;
+  left : IsLeft l.to l.fn.self.frames (all_stored l.self-inside.store.full l.self-inside.store.last) l.self-inside.count l.self-inside.recorded;
   tile : l.tile ≡ all_restored (drop l.self-inside.count l.fn.self.frames) l.fn.tile;
 }
 

@@ -4,8 +4,8 @@ use Rattle.fd_undo.specs.Stack.{all_stored}
 use Rattle.fd_undo.proofs.RowLemmas.{tail_is}
 use Rattle.fd_undo.proofs.StackLemmas.{kept_in_block, kept_in_last}
 use Rattle.fd_undo.proofs.KeptAt.{keeps-found}
-use Rattle.fd_undo.proofs.stack.oldest_whole.Goals as goal
-use Rattle.fd_undo.proofs.stack.oldest_whole.Goals.{After-block-item}
+use Rattle.fd_undo.proofs.store.oldest_whole.Goals as goal
+use Rattle.fd_undo.proofs.store.oldest_whole.Goals.{After-block-item}
 
 -- which of the blocks is looked at
 within : (c : After-block-item) → c.saturating_sub.result + c.loop-block.block-index < length c.args.full.now

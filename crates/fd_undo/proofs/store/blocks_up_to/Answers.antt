@@ -4,7 +4,7 @@ use Rattle.std.proofs.lemmas.Bool.{leb-true, leb-false}
 use Rattle.std.proofs.lemmas.List.Sorted.{IsPartitionPoint-from_clause, IsPartitionedBy-leb}
 use Rattle.fd_undo.specs.Block.{Filled, first_number}
 use Rattle.fd_undo.proofs.StackLemmas.{firsts-rise}
-use Rattle.fd_undo.proofs.stack.blocks_up_to.Goals as goal
+use Rattle.fd_undo.proofs.store.blocks_up_to.Goals as goal
 
 pub returns : goal.returns
 returns c =

@@ -1,0 +1,436 @@
+//! The frames of a stack that are stored.
+ghost use Rattle.std.specs.Prelude.{◌≡◌, ℕ, ◌+◌, ◌-◌, ◌*◌, ◌^◌, ◌<◌, ◌≤◌, true, false, [], ◌∷◌, ◌++◌, List, length};
+ghost use Rattle.std.specs.Prelude.{slice_index_or, None, IfOk, IsOk, IfSome, OnOk, OnErr, replicate};
+ghost use Rattle.std.specs.List.{zip};
+ghost use Rattle.fd_snap.specs.Limits.{most_pixels};
+ghost use Rattle.fd_tile.specs.Place.{IsTilePlace};
+ghost use Rattle.fd_undo.specs.Frame.{kept_row, kept_place, alike, KeepsAll};
+ghost use Rattle.fd_undo.specs.SpanSlices.{AreSpanSlices, kept_in_slices};
+ghost use Rattle.fd_undo.specs.Block.{KeptFrame, Filled, newest, others, keeping_row, found, first_number, Rise};
+ghost use Rattle.fd_undo.specs.Stack.{no_store, stored_in, all_stored, HaveFrames};
+ghost use Rattle.fd_undo.specs.Room.{IsWithin, left_in};
+ghost use Rattle.fd_memory.specs.Wanting.{Wanted};
+
+use crate::block::Block;
+use crate::blocks::Blocks;
+use crate::room::Room;
+use crate::span_slices::SpanSlices;
+use fd_blend::Colour;
+use fd_memory::boxed;
+use fd_tile::Place;
+use std::alloc::{AllocError, Global};
+use std::marker::Model;
+use std::mem;
+
+/// The blocks of stored frames.
+#[derive(Drop)]
+struct Body {
+    // the older frames: each block has one
+    full: Blocks,
+    // the newest of them, and room for more
+    last: Block,
+}
+
+/// Stored frames, oldest first, in blocks. They stand behind a pointer, so that a tile without frames is small.
+#[derive(Drop)]
+pub(crate) struct Store {
+    body: Option<Box<Body>>,
+}
+
+impl Model for Store {
+    ghost use Rattle.std.specs.Prelude.{option_map, unwrap_or, IfSome};
+    ghost use Rattle.fd_undo.specs.Stack.{Stored, no_store, HaveFrames};
+
+    ghost Value = { Stored };
+
+    ghost view = { λ s. unwrap_or (option_map (λ p. record { full = p.value.full.items; last = p.value.last }) s.body) no_store };
+
+    ghost invariant = { λ s. IfSome s.body (λ p. HaveFrames p.value.full.items) };
+}
+
+impl Store {
+    /// No frames, and no room, which takes no memory.
+    pub(crate) fn empty() -> Store
+        ensures { result ≡ no_store }
+    {
+        Store { body: None }
+    }
+
+    /// Whether one more frame of so many spans, colours and depths has room in the last block.
+    pub(crate) fn takes(&self, more: Room) -> bool
+        ensures { result ≡ true → (0 < self.now.last.frames_left) × (more.spans ≤ self.now.last.spans_left)
+            × (more.colours ≤ self.now.last.colours_left) × (more.depths ≤ self.now.last.depths_left) }
+    {
+        match &self.body {
+            Some(body) => body.last.takes(more),
+            None => false,
+        }
+    }
+
+    /// How much the last block holds.
+    pub(crate) fn held(&self) -> Room {
+        match &self.body {
+            Some(body) => body.last.held(),
+            None => Room::NONE,
+        }
+    }
+
+    /// Makes room for one frame that needs so much in the last block, or in a new one where it has no room. A frame without spans and pixels needs none.
+    pub(crate) fn make_room(&mut self, alloc: Global, needed: Room) -> Result<(), AllocError>
+        requires one { needed.frames ≡ 1 }
+        ensures same { all_stored self.new.full self.new.last ≡ all_stored self.old.full self.old.last }
+        ensures frame { OnOk result (0 < needed.spans → 0 < self.new.last.frames_left) }
+        ensures spans { OnOk result (needed.spans ≤ self.new.last.spans_left) }
+        ensures colours { OnOk result (needed.colours ≤ self.new.last.colours_left) }
+        ensures depths { OnOk result (needed.depths ≤ self.new.last.depths_left) }
+        ensures free { needed.spans ≡ 0 → needed.colours ≡ 0 → needed.depths ≡ 0 → IsOk result }
+        ensures wanted { OnErr result Wanted }
+    {
+        if needed.keeps_nothing() || self.takes(needed) {
+            return Ok(());
+        }
+        let wanted = needed.after(self.held());
+        self.open_another(alloc, needed, wanted)
+    }
+
+    /// Makes room for one frame that needs so much in another block, which has as much as is wanted where there is memory for it.
+    pub(crate) fn open_another(
+        &mut self,
+        alloc: Global,
+        needed: Room,
+        wanted: Room,
+    ) -> Result<(), AllocError>
+        requires one { needed.frames ≡ 1 }
+        requires within { IsWithin needed wanted }
+        ensures same { all_stored self.new.full self.new.last ≡ all_stored self.old.full self.old.last }
+        ensures frame { OnOk result (0 < self.new.last.frames_left) }
+        ensures spans { OnOk result (needed.spans ≤ self.new.last.spans_left) }
+        ensures colours { OnOk result (needed.colours ≤ self.new.last.colours_left) }
+        ensures depths { OnOk result (needed.depths ≤ self.new.last.depths_left) }
+        ensures wanted { OnErr result Wanted }
+    {
+        if let Some(body) = &mut self.body {
+            return body.open_another(alloc, needed, wanted);
+        }
+        let body = Body {
+            full: Blocks::new(alloc),
+            last: new_block(alloc, wanted, needed)?,
+        };
+        self.body = Some(boxed(alloc, body)?);
+        Ok(())
+    }
+
+    /// Begins a frame in the last block, which keeps nothing yet.
+    pub(crate) fn begin(&mut self, number: usize)
+        requires room { 0 < self.old.last.frames_left }
+        requires small { number < 2 ^ 32 }
+        ensures full { self.new.full ≡ self.old.full }
+        ensures frames { self.new.last.frames ≡ self.old.last.frames ++ record { number = number; kept = [] } ∷ [] }
+        ensures spans_left { self.new.last.spans_left ≡ self.old.last.spans_left }
+        ensures colours_left { self.new.last.colours_left ≡ self.old.last.colours_left }
+        ensures depths_left { self.new.last.depths_left ≡ self.old.last.depths_left }
+    {
+        if let Some(body) = &mut self.body {
+            body.last.begin(number);
+        }
+    }
+
+    /// Keeps the colours and the depths of row y from column x on in the newest frame, where it may be known that all depths are this one.
+    pub(crate) fn keep(
+        &mut self,
+        x: u32,
+        y: u32,
+        old: &[Colour],
+        depths: &[u16],
+        known: Option<u16>,
+    )
+        requires begun { 0 < length self.old.last.frames }
+        requires span { 0 < self.old.last.spans_left }
+        requires colours { length old.now ≤ self.old.last.colours_left }
+        requires depths { length depths.now ≤ self.old.last.depths_left }
+        requires equal { length depths.now ≡ length old.now }
+        requires right { x + length old.now ≤ most_pixels }
+        requires bottom { y ≤ most_pixels }
+        requires known { IfSome known (λ depth. depths.now ≡ replicate (length depths.now) depth) }
+        ensures full { self.new.full ≡ self.old.full }
+        ensures frames { self.new.last.frames ≡ keeping_row self.old.last.frames (kept_row x y (zip old.now depths.now)) }
+        ensures spans_left { self.old.last.spans_left ≤ self.new.last.spans_left + 1 }
+        ensures colours_left { self.old.last.colours_left ≤ self.new.last.colours_left + length old.now }
+        ensures depths_left { self.old.last.depths_left ≤ self.new.last.depths_left + length depths.now }
+    {
+        if let Some(body) = &mut self.body {
+            body.last.keep(x, y, old, depths, known);
+        }
+    }
+
+    /// The same of a place, whose colours and depths stand row after row.
+    pub(crate) fn keep_place(
+        &mut self,
+        place: Place,
+        old: &[Colour],
+        depths: &[u16],
+        known: Option<u16>,
+    )
+        requires placed { IsTilePlace place }
+        requires counted { length old.now ≡ place.height * place.width }
+        requires equal { length depths.now ≡ length old.now }
+        requires known { IfSome known (λ depth. depths.now ≡ replicate (length depths.now) depth) }
+        requires begun { 0 < length self.old.last.frames }
+        requires span { 0 < self.old.last.spans_left }
+        requires colours { length old.now ≤ self.old.last.colours_left }
+        requires depths { length depths.now ≤ self.old.last.depths_left }
+        ensures full { self.new.full ≡ self.old.full }
+        ensures frames { self.new.last.frames ≡ keeping_row self.old.last.frames (kept_place place old.now depths.now) }
+        ensures spans_left { self.old.last.spans_left ≤ self.new.last.spans_left + 1 }
+        ensures colours_left { self.old.last.colours_left ≤ self.new.last.colours_left + length old.now }
+        ensures depths_left { self.old.last.depths_left ≤ self.new.last.depths_left + length depths.now }
+    {
+        if let Some(body) = &mut self.body {
+            body.last.keep_place(place, old, depths, known);
+        }
+    }
+
+    /// Puts a frame of a whole place into the last block, which is of one colour and one depth.
+    pub(crate) fn push_alike(&mut self, number: usize, place: Place, colour: Colour, depth: u16)
+        requires placed { IsTilePlace place }
+        requires frame { 0 < self.old.last.frames_left }
+        requires span { 0 < self.old.last.spans_left }
+        requires colours { 0 < self.old.last.colours_left }
+        requires small { number < 2 ^ 32 }
+        ensures full { self.new.full ≡ self.old.full }
+        ensures frames { self.new.last.frames ≡ self.old.last.frames ++ record { number = number; kept = alike place (colour, depth) } ∷ [] }
+    {
+        if let Some(body) = &mut self.body {
+            body.last.begin(number);
+            body.last.keep_alike(place, colour, depth);
+        }
+    }
+
+    /// Whether a frame from this number on is stored. Then the newest one of the last block is.
+    pub(crate) fn is_stored(&mut self, alloc: Global, from: usize) -> bool
+        ensures same { all_stored self.new.full self.new.last ≡ all_stored self.old.full self.old.last }
+        ensures yes { result ≡ true → (0 < length self.new.last.frames) × (from ≤ (newest self.new.last.frames).number) }
+        ensures no { result ≡ false → (count : ℕ) → Rise 0 (all_stored self.new.full self.new.last) count → Rise 0 (all_stored self.new.full self.new.last) from }
+    {
+        if let Some(body) = &mut self.body {
+            return body.is_stored(alloc, from);
+        }
+        false
+    }
+
+    /// The number of the newest frame of the last block.
+    pub(crate) fn newest_number(&self) -> usize
+        requires { 0 < length self.now.last.frames }
+        ensures value { result ≡ (newest self.now.last.frames).number }
+        ensures small { result < 2 ^ 32 }
+    {
+        self.body.as_ref().unwrap().last.newest_number()
+    }
+
+    /// What that frame keeps.
+    pub(crate) fn newest_slices(&self) -> SpanSlices<'_>
+        requires { 0 < length self.now.last.frames }
+        ensures whole { AreSpanSlices result }
+        ensures there { kept_in_slices result ≡ (newest self.now.last.frames).kept }
+    {
+        self.body.as_ref().unwrap().last.newest_slices()
+    }
+
+    /// Drops it, unread, and says how many pixels it kept.
+    pub(crate) fn drop_newest(&mut self) -> usize
+        requires some { 0 < length self.old.last.frames }
+        requires countable { length (newest self.old.last.frames).kept < 2 ^ 64 }
+        ensures pixels { result ≡ length (newest self.old.last.frames).kept }
+        ensures full { self.new.full ≡ self.old.full }
+        ensures frames { self.new.last.frames ≡ others self.old.last.frames }
+    {
+        match &mut self.body {
+            Some(body) => body.last.drop_newest(),
+            None => 0,
+        }
+    }
+
+    /// Drops all frames, unread. Half of their memory is given back, or more; the rest is there for the next frames.
+    pub(crate) fn drop_all(&mut self)
+        ensures full { self.new.full ≡ [] }
+        ensures last { self.new.last.frames ≡ [] }
+    {
+        if let Some(body) = &mut self.body {
+            body.drop_all();
+        }
+    }
+
+    /// The number of the oldest frame from this number on that is seen to keep a whole place.
+    pub(crate) fn oldest_whole(&self, from: usize, place: Place) -> Option<usize>
+        requires { (count : ℕ) × Rise 0 (all_stored self.now.full self.now.last) count }
+        ensures { IfSome result (λ n. (from ≤ n) × KeepsAll place (found n (all_stored self.now.full self.now.last))) }
+    {
+        let body = self.body.as_ref()?;
+        oldest_whole(body.full.as_slice(), &body.last, from, place)
+    }
+
+    /// What the frame of this number keeps.
+    pub(crate) fn slices_of(&self, number: usize) -> Option<SpanSlices<'_>>
+        requires { (count : ℕ) × Rise 0 (all_stored self.now.full self.now.last) count }
+        ensures whole { IfSome result AreSpanSlices }
+        ensures there { IfSome result (λ slices. kept_in_slices slices ≡ found number (all_stored self.now.full self.now.last)) }
+        ensures absent { result ≡ None → found number (all_stored self.now.full self.now.last) ≡ [] }
+    {
+        let body = self.body.as_ref()?;
+        block_of(body.full.as_slice(), &body.last, number).slices_of(number)
+    }
+}
+
+impl Body {
+    /// Makes room for one frame that needs so much in another block, which has as much as is wanted where there is memory for it.
+    fn open_another(&mut self, alloc: Global, needed: Room, wanted: Room) -> Result<(), AllocError>
+        requires one { needed.frames ≡ 1 }
+        requires within { IsWithin needed wanted }
+        requires have { HaveFrames self.old.full.items }
+        ensures have { HaveFrames self.new.full.items }
+        ensures same { all_stored self.new.full.items self.new.last ≡ all_stored self.old.full.items self.old.last }
+        ensures frame { OnOk result (0 < self.new.last.frames_left) }
+        ensures spans { OnOk result (needed.spans ≤ self.new.last.spans_left) }
+        ensures colours { OnOk result (needed.colours ≤ self.new.last.colours_left) }
+        ensures depths { OnOk result (needed.depths ≤ self.new.last.depths_left) }
+        ensures wanted { OnErr result Wanted }
+    {
+        if self.last.is_empty() {
+            self.last = new_block(alloc, wanted, needed)?;
+            return Ok(());
+        }
+        let another = match self.full.take_spare(needed) {
+            Some(spare) => spare,
+            None => new_block(alloc, wanted, needed)?,
+        };
+        self.full.make_room()?;
+        self.full.push(mem::replace(&mut self.last, another));
+        Ok(())
+    }
+
+    /// Where the last block has no frame its memory goes back, and the block before it takes its place.
+    fn refill(&mut self, alloc: Global)
+        requires { HaveFrames self.old.full.items }
+        ensures have { HaveFrames self.new.full.items }
+        ensures same { all_stored self.new.full.items self.new.last ≡ all_stored self.old.full.items self.old.last }
+        ensures some { length self.new.last.frames ≡ 0 → all_stored self.new.full.items self.new.last ≡ [] }
+    {
+        if self.last.is_empty() {
+            self.last = take_newest(alloc, &mut self.full);
+        }
+    }
+
+    /// Whether a frame from this number on is stored. Then the newest one of the last block is.
+    #[tactic(auto, using(crate::proofs::StackLemmas::stack_is_stored_steps))]
+    fn is_stored(&mut self, alloc: Global, from: usize) -> bool
+        requires { HaveFrames self.old.full.items }
+        ensures have { HaveFrames self.new.full.items }
+        ensures same { all_stored self.new.full.items self.new.last ≡ all_stored self.old.full.items self.old.last }
+        ensures yes { result ≡ true → (0 < length self.new.last.frames) × (from ≤ (newest self.new.last.frames).number) }
+        ensures no { result ≡ false → (count : ℕ) → Rise 0 (all_stored self.new.full.items self.new.last) count
+            → Rise 0 (all_stored self.new.full.items self.new.last) from }
+    {
+        self.refill(alloc);
+        after_newest(&self.last) > from
+    }
+
+    /// Drops all frames, unread, and gives half of their memory back, or more.
+    fn drop_all(&mut self)
+        ensures full { self.new.full.items ≡ [] }
+        ensures last { self.new.last.frames ≡ [] }
+    {
+        self.full.drop_all(&mut self.last);
+    }
+}
+
+/// A block with so much room, or with just as much as is needed where there is no memory for more.
+fn new_block(alloc: Global, wanted: Room, needed: Room) -> Result<Block, AllocError>
+    requires { IsWithin needed wanted }
+    ensures frames { IfOk result (λ b. b.frames ≡ []) }
+    ensures room { IfOk result (λ b. IsWithin needed (left_in b)) }
+    ensures wanted { OnErr result Wanted }
+{
+    match Block::with_room(alloc, wanted) {
+        Err(_) if wanted != needed => Block::with_room(alloc, needed),
+        made => made,
+    }
+}
+
+/// Takes the newest block off. Where there is none, an empty one stands for it.
+fn take_newest(alloc: Global, full: &mut Blocks) -> Block
+    requires { HaveFrames full.old.items }
+    ensures have { HaveFrames full.new.items }
+    ensures same { all_stored full.new.items result ≡ all_stored full.old.items (record result { frames = [] }) }
+    ensures some { length result.frames ≡ 0 → all_stored full.new.items result ≡ [] }
+{
+    match full.pop() {
+        Some(newest) => newest,
+        None => Block::empty(alloc),
+    }
+}
+
+/// The number of the oldest stored frame from this number on that is seen to keep a whole place.
+#[tactic(auto, using(crate::proofs::Backs::stack_oldest_whole_steps))]
+fn oldest_whole(full: &[Block], last: &Block, from: usize, place: Place) -> Option<usize>
+    requires have { HaveFrames full.now }
+    requires rise { (count : ℕ) × Rise 0 (all_stored full.now last.now) count }
+    ensures { IfSome result (λ n. (from ≤ n) × KeepsAll place (found n (all_stored full.now last.now))) }
+{
+    let after = blocks_up_to(full, from);
+    for block in &full[after.saturating_sub(1)..] {
+        let number = block.first_whole(from, place);
+        if number.is_some() {
+            return number;
+        }
+    }
+    last.first_whole(from, place)
+}
+
+/// The number after that of the newest frame of a block, or 0.
+fn after_newest(last: &Block) -> usize
+    ensures some { 0 < length last.now.frames → result ≡ (newest last.now.frames).number + 1 }
+    ensures none { length last.now.frames ≡ 0 → result ≡ 0 }
+{
+    if last.is_empty() {
+        0
+    } else {
+        last.newest_number() + 1
+    }
+}
+
+/// Whether a block has a frame whose number is this one or lower.
+fn reaches(block: &Block, number: usize) -> bool
+    ensures yes { result ≡ true → (0 < length block.now.frames) × (first_number block.now.frames ≤ number) }
+    ensures no { result ≡ false → 0 < length block.now.frames → number < first_number block.now.frames }
+{
+    !block.is_empty() && block.first_number() <= number
+}
+
+/// How many of the full blocks begin with this number or a lower one.
+fn blocks_up_to(full: &[Block], number: usize) -> usize
+    requires have { HaveFrames full.now }
+    requires rise { (last : List KeptFrame) × (count : ℕ) × Rise 0 (stored_in full.now ++ last) count }
+    ensures within { result ≤ length full.now }
+    ensures begun { (k : ℕ) → (d : Filled) → k < result → first_number (slice_index_or full.now k d).frames ≤ number }
+    ensures later { (k : ℕ) → (d : Filled) → result ≤ k → k < length full.now → number < first_number (slice_index_or full.now k d).frames }
+{
+    full.partition_point(|block| block.first_number() <= number)
+}
+
+/// The block that has the frame of this number, if one has.
+#[tactic(auto, using(crate::proofs::StackLemmas::stack_block_of_steps))]
+fn block_of<'a>(full: &'a [Block], last: &'a Block, number: usize) -> &'a Block
+    requires have { HaveFrames full.now }
+    requires rise { (count : ℕ) × Rise 0 (all_stored full.now last.now) count }
+    ensures rise { (count : ℕ) × Rise 0 result.now.frames count }
+    ensures found { found number result.now.frames ≡ found number (all_stored full.now last.now) }
+{
+    if reaches(last, number) {
+        return last;
+    }
+    let after = blocks_up_to(full, number);
+    if after == 0 { last } else { &full[after - 1] }
+}
+
+#[cfg(test)]
+mod tests;
