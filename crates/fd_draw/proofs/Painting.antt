@@ -40,6 +40,7 @@ module _ {A B : ℕ → ℕ → Pixel → Pixel} {R S : ℕ → ℕ → Pixel �
       record {
         placed = second.placed ∙ first.placed;
         made = second.made ∙ first.made;
+        deep = second.deep ∙ first.deep;
         filled = second.filled;
         below = second.below ∙ first.below;
         begun = second.begun;
@@ -141,6 +142,7 @@ module _ {run : Run} {t : TileImage} (is : HasRun run t.place) (filled : IsTileI
   Paints-span {u} begun = record {
     placed = refl;
     made = refl;
+    deep = refl;
     filled = filled;
     below = older-push (older u.frames) (top u.frames ++ kept);
     begun = begun;

@@ -117,6 +117,7 @@ Blends-code {t} {run} change is filled read is_lent is_new =
     rw (is_new, is_lent, read, with_row_left_is t run.y filled is.crossed put put_long) (record {
       placed = refl {a = t.place};
       made = refl {a = t.made};
+      deep = refl {a = t.deep};
       filled = IsTileImage-with_row t run.y filled is.crossed put put_long;
       pixels = λ c r held. pair_first (in_run run c r) (pixel_of t c r) _ (change c r (colour_in t c r))
           (value_put is filled count values size c r held (cases_eq r run.y) ∙ cond_at (in_run run c r) _ _ _ (given c r));

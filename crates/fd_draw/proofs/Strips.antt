@@ -101,6 +101,7 @@ module _ {t : TileImage} {first last : ℕ} (is : HasRows first last t.place) (f
     Paints-strip {u} begun kept = rw kept (record {
       placed = refl;
       made = refl;
+      deep = refl;
       filled = filled;
       below = older-push (older u.frames) (top u.frames ++ kept_place strip cs ds);
       begun = begun;
@@ -124,6 +125,7 @@ pub Paints-changed : {change : ℕ → ℕ → Pixel → Pixel} {region : ℕ �
 Paints-changed {change} {region} {t} {t'} kept changed = record {
   placed = changed.placed ∙ kept.placed;
   made = changed.made ∙ kept.made;
+  deep = changed.deep ∙ kept.deep;
   filled = changed.filled;
   below = kept.below;
   begun = kept.begun;

@@ -1,9 +1,12 @@
 -- Working. Writing some pixels of a tile, which are kept first.
-use Rattle.std.specs.Prelude.{◌≡◌, ◌≤◌, ◌<◌, ℕ, ◌+◌, ◌-◌, Bool, nat_le, nat_lt, List, [], ◌∷◌, ◌==◌, ◌&&◌, slice_index_or, if◌then◌else◌}
+use Rattle.std.specs.Prelude.{◌≡◌, ◌≤◌, ◌<◌, ℕ, ◌+◌, ◌-◌, Bool, true, false, nat_le, nat_lt, List, [], ◌∷◌, ◌==◌, ◌&&◌, slice_index_or, if◌then◌else◌}
 use Rattle.fd_tile.specs.declared.place.Place.{Place}
 use Rattle.fd_tile.specs.Place.{Holds, HasRow}
 use Rattle.fd_tile.specs.Tile.{Pixel, TileImage, IsTileImage, pixel_of}
 use Rattle.fd_undo.specs.Undo.{Undo}
+use Rattle.fd_events.specs.declared.pipeline.Pipeline.{Pipeline}
+use Rattle.fd_events.specs.declared.effect.Clear.{Clear}
+use Rattle.fd_events.specs.declared.effect.Clear.TheVariants.{Colours, Depths}
 use Rattle.fd_draw.specs.declared.canvas.Canvas.{Canvas}
 use Rattle.fd_draw.specs.declared.run.Run.{Run}
 use Rattle.fd_draw.specs.Paints.{Paints}
@@ -83,12 +86,22 @@ WritesRun span_count run = WritesRegion span_count (run.right - run.left) (in_ru
 pub record ChangesRegion (change : ℕ → ℕ → Pixel → Pixel) (region : ℕ → ℕ → Bool) (t t' : TileImage) : Type 0 where
   pub placed : t'.place ≡ t.place
   pub made : t'.made ≡ t.made
+  pub deep : t'.deep ≡ t.deep
   pub filled : IsTileImage t'
   pub pixels : (x y : ℕ) → Holds t.place x y → pixel_of t' x y ≡ after_where region change x y (pixel_of t x y)
 
 -- those of a run
 abbrev pub ChangesRun : (ℕ → ℕ → Pixel → Pixel) → Run → TileImage → TileImage → Type 0
 ChangesRun change run = ChangesRegion change (in_run run)
+
+-- where a draw in a state writes depths, they have a place on a tile
+pub record HasDepths (s : Pipeline) (t : TileImage) : Type 0 where
+  pub deep : s.depth.enable ≡ true → s.depth.write ≡ true → t.deep ≡ true
+
+-- where a clear is one of depths, its own has
+abbrev pub FitsClear : Clear → TileImage → Type 0
+FitsClear (Colours colour) t = Unit {0}
+FitsClear (Depths depth) t = t.deep ≡ false → depth ≡ 65535
 
 -- a pixel gets its depth of some that begin in a column
 abbrev pub depth_stored : List ℕ → ℕ → ℕ → ℕ → Pixel → Pixel

@@ -8,7 +8,7 @@ ghost use Rattle.fd_draw.specs.Mask.{has_bit};
 ghost use Rattle.fd_draw.specs.Primitive.{CoversRun, IsReady, ReachesRun, is_tested_by, kept_of, painted_by, triangle_of};
 ghost use Rattle.fd_draw.specs.Run.{EachColumn, run_spans};
 ghost use Rattle.fd_draw.specs.Tested.{AreDepths, AreTested};
-ghost use Rattle.fd_draw.specs.Writing.{ChangesRun, HasRoom, HasRun, WritesRun, depth_stored, place_on};
+ghost use Rattle.fd_draw.specs.Writing.{ChangesRun, HasDepths, HasRoom, HasRun, WritesRun, depth_stored, place_on};
 
 use crate::canvas::Canvas;
 use crate::comparison::{alike, test_row};
@@ -31,6 +31,7 @@ pub(crate) fn draw_span(primitive: &Primitive<'_>, run: Run, canvas: &mut Canvas
     requires ready { IsReady primitive.now }
     requires covered { CoversRun primitive.now run }
     requires reached { ReachesRun primitive.now run }
+    requires deep { HasDepths primitive.now.state canvas.old.tile.now }
     requires room { HasRoom (run_spans (is_tested_by primitive.now) run) (run.right - run.left) canvas.old.undo.now }
     ensures { WritesRun (run_spans (is_tested_by primitive.now) run) run (painted_by primitive.now) (kept_of primitive.now)
         canvas.old canvas.new }
@@ -51,6 +52,7 @@ pub(crate) fn draw_span(primitive: &Primitive<'_>, run: Run, canvas: &mut Canvas
 /// Stores depths in a run.
 fn store_depths(depths: &[u16], run: Run, tile: &mut Tile)
     requires made { tile.old.made ≡ true }
+    requires deep { tile.old.deep ≡ true }
     requires run { HasRun run tile.old.place }
     requires size { length depths.now ≡ run.right - run.left }
     ensures { ChangesRun (depth_stored depths.now run.left) run tile.old tile.new }
@@ -70,6 +72,7 @@ fn draw_run(primitive: &Primitive<'_>, depths: &[u16], run: Run, canvas: &mut Ca
     requires depths { AreDepths primitive.now run depths.now }
     requires drawn { EachColumn run
         (λ column. is_drawn (triangle_of primitive.now) primitive.now.state column run.y (depth_in canvas.old.tile.now column run.y) ≡ true) }
+    requires deep { HasDepths primitive.now.state canvas.old.tile.now }
     requires room { HasRoom 1 (run.right - run.left) canvas.old.undo.now }
     ensures { WritesRun 1 run (painted_by primitive.now) (kept_of primitive.now) canvas.old canvas.new }
 {
@@ -132,6 +135,7 @@ fn draw_runs(primitive: &Primitive<'_>, tested: &Tested<'_>, run: Run, canvas: &
     requires run { HasRun run (place_on canvas.old) }
     requires ready { IsReady primitive.now }
     requires tested { AreTested primitive.now run canvas.old.tile.now tested.now }
+    requires deep { HasDepths primitive.now.state canvas.old.tile.now }
     requires room { HasRoom (run.right - run.left) (run.right - run.left) canvas.old.undo.now }
     ensures { WritesRun (run.right - run.left) run (painted_by primitive.now) (kept_of primitive.now) canvas.old canvas.new }
 {

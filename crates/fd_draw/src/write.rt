@@ -3,7 +3,7 @@ ghost use Rattle.std.specs.List.{range_with_len, sum_by};
 ghost use Rattle.fd_events.specs.Draw.{triangles_of};
 ghost use Rattle.fd_events.specs.Image.{source_of, pixel_after, pixel_after_triangles, kept_by, kept_by_triangles};
 ghost use Rattle.fd_tile.specs.Tile.{IsTileImage};
-ghost use Rattle.fd_draw.specs.Demand.{pixels_in, region_spans, triangle_pixels, triangle_spans, event_pixels, event_spans};
+ghost use Rattle.fd_draw.specs.Demand.{pixels_in, region_spans, triangle_pixels, triangle_spans, event_pixels, event_spans, writes_deep};
 ghost use Rattle.fd_draw.specs.Written.{as_it_is, colour_blended};
 ghost use Rattle.fd_cover.specs.Covers.{covers};
 ghost use Rattle.fd_snap.specs.Limits.{most_pixels};
@@ -12,7 +12,7 @@ ghost use Rattle.fd_draw.specs.Row.{changed_row};
 ghost use Rattle.fd_draw.specs.Paints.{Paints};
 ghost use Rattle.fd_draw.specs.Primitive.{CoversRun, IsReady, blended_by, blended_in, is_tested_by, kept_of, painted_by, reached_by, triangle_of};
 ghost use Rattle.fd_draw.specs.Plan.{ArePlanned, IsFoundOn, IsPlan};
-ghost use Rattle.fd_draw.specs.Writing.{ChangesRun, HasRoom, HasRun, PaintsOn, WritesRegion, WritesRun, in_row, keep_each, place_on};
+ghost use Rattle.fd_draw.specs.Writing.{ChangesRun, HasDepths, HasRoom, HasRun, PaintsOn, WritesRegion, WritesRun, in_row, keep_each, place_on};
 
 use crate::canvas::Canvas;
 use crate::clear::clear_tile;
@@ -72,6 +72,7 @@ pub fn draw(event: &Event, state: &Pipeline, plan: &Plan, tile: &mut Tile, undo:
     requires made { tile.old.made ≡ true }
     requires begun { undo.old.frame_left ≡ false }
     requires planned { IsPlan plan.now event.now state.now tile.old.place }
+    requires deep { writes_deep event.now state.now ≡ true → tile.old.deep ≡ true }
     requires room { HasRoom (event_spans event.now state.now tile.old.place) (event_pixels event.now state.now tile.old.place) undo.old }
     ensures { Paints (pixel_after event.now state.now) (kept_by event.now state.now) tile.old undo.old tile.new undo.new }
 {
@@ -150,6 +151,7 @@ fn draw_row(primitive: &Primitive<'_>, found: &Found, y: u32, canvas: &mut Canva
     requires found { IsFoundOn (triangle_of primitive.now) primitive.now.state (place_on canvas.old) found.now }
     requires from_top { found.now.area.top ≤ y }
     requires to_bottom { y < found.now.area.bottom }
+    requires deep { HasDepths primitive.now.state canvas.old.tile.now }
     requires room { HasRoom (region_spans (is_tested_by primitive.now) (in_row (reached_by primitive.now) y) (place_on canvas.old))
         (pixels_in (in_row (reached_by primitive.now) y) (place_on canvas.old)) canvas.old.undo.now }
     ensures { WritesRegion (region_spans (is_tested_by primitive.now) (in_row (reached_by primitive.now) y) (place_on canvas.old))
@@ -165,6 +167,7 @@ fn draw_row(primitive: &Primitive<'_>, found: &Found, y: u32, canvas: &mut Canva
 fn draw_primitive(primitive: &Primitive<'_>, found: &Found, canvas: &mut Canvas<'_>)
     requires ready { IsReady primitive.now }
     requires found { IsFoundOn (triangle_of primitive.now) primitive.now.state (place_on canvas.old) found.now }
+    requires deep { HasDepths primitive.now.state canvas.old.tile.now }
     requires room { HasRoom (triangle_spans primitive.now.state (place_on canvas.old) (triangle_of primitive.now))
         (triangle_pixels primitive.now.state (place_on canvas.old) (triangle_of primitive.now)) canvas.old.undo.now }
     ensures { WritesRegion (triangle_spans primitive.now.state (place_on canvas.old) (triangle_of primitive.now))
@@ -189,6 +192,7 @@ fn draw_primitive(primitive: &Primitive<'_>, found: &Found, canvas: &mut Canvas<
 /// then the rest.
 fn draw_triangles(draw: &Draw, state: &Pipeline, plan: &Plan, canvas: &mut Canvas<'_>)
     requires planned { ArePlanned draw.now state.now (place_on canvas.old) 0 plan.now.planned.items plan.now.rest }
+    requires deep { HasDepths state.now canvas.old.tile.now }
     requires room { HasRoom (sum_by (triangle_spans state.now (place_on canvas.old)) (triangles_of draw.now))
         (sum_by (triangle_pixels state.now (place_on canvas.old)) (triangles_of draw.now)) canvas.old.undo.now }
     ensures { PaintsOn (pixel_after_triangles (triangles_of draw.now) draw.now.interp state.now)

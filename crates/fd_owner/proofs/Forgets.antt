@@ -1,4 +1,7 @@
 -- An owner that forgets what its events overwrote, and how its history goes on.
+use Rattle.std.proofs.Common.{Bool}
+use Rattle.fd_undo.specs.Frame.{FitDepths}
+use Rattle.fd_undo.proofs.Restored.{fit-nothing}
 use Rattle.std.proofs.Common.{◌≡◌, ℕ, zero, suc, List, [], ◌∷◌, refl, ◌∙◌, arith, inl}
 use Rattle.std.specs.Prelude.{map, All}
 use Rattle.std.proofs.lemmas.List.{length-map}
@@ -40,9 +43,14 @@ alike-emptied : (p : Place) (frames : List (List KeptPixel)) → All (λ frame. 
 alike-emptied p [] = All-nil (λ frame. IsAlike p frame)
 alike-emptied p (f ∷ frames) = All-cons (λ frame. IsAlike p frame) [] (emptied frames) (inl refl) (alike-emptied p frames)
 
+depths-emptied : (deep : Bool) (frames : List (List KeptPixel)) → All (λ frame. FitDepths deep frame) (emptied frames)
+depths-emptied deep [] = All-nil (λ frame. FitDepths deep frame)
+depths-emptied deep (f ∷ frames) = All-cons (λ frame. FitDepths deep frame) [] (emptied frames) (fit-nothing deep) (depths-emptied deep frames)
+
 pub IsOwner-emptied : (t : TileImage) (u u' : Undo) → u'.frames ≡ emptied u.frames → IsOwner t u → IsOwner t u'
 IsOwner-emptied t u u' is owner = record {
   inside = rw is (inside-emptied t.place u.frames);
+  depths = rw is (depths-emptied t.deep u.frames);
   alike = λ _. rw is (alike-emptied t.place u.frames);
   fits = rw is (simp length-map owner.fits);
 }

@@ -1,4 +1,5 @@
 -- An owner that goes back.
+use Rattle.fd_undo.specs.Frame.{FitDepths}
 use Rattle.std.proofs.Common.{◌≡◌, true, false, ℕ, ◌≤◌, List, [], ◌∷◌, ◌++◌, length, take, drop, refl, sym, ap, ◌∙◌, arith}
 use Rattle.std.proofs.lemmas.List.{length-take, take-append-drop}
 use Rattle.std.proofs.lemmas.List.Elements.{All-take}
@@ -38,15 +39,16 @@ module _ (t t' : TileImage) (u u' : Undo) (to : ℕ) (few : to ≤ length u.fram
   pub placed : t'.place ≡ t.place
   placed = ap (λ v. v.place) undone ∙ all_restored-place high t
 
-  pub IsOwner-back : t'.made ≡ t.made → IsOwner t u → IsOwner t' u'
-  IsOwner-back made owner = record {
+  pub IsOwner-back : t'.made ≡ t.made → t'.deep ≡ t.deep → IsOwner t u → IsOwner t' u'
+  IsOwner-back made deep owner = record {
+    depths = rw (left, deep) (All-take (λ frame. FitDepths t.deep frame) to u.frames owner.depths);
     inside = rw (left, placed) (All-take (λ frame. Inside t.place frame) to u.frames owner.inside);
     alike = λ not. rw (left, placed) (All-take (λ frame. IsAlike t.place frame) to u.frames (owner.alike (sym made ∙ not)));
     fits = omega (arith, owner.fits, ap length left, size, few);
   }
 
 -- ---- at once to the start, where nothing was drawn on the tile
-module _ (t t' : TileImage) (u u' : Undo) (blank : t' ≡ record (painted t.place (λ _ _. fresh_pixel)) { made = false })
+module _ (t t' : TileImage) (u u' : Undo) (blank : t' ≡ record (painted t.place (λ _ _. fresh_pixel)) { made = false; deep = false })
     (cleared : u' ≡ without_room u.opens_fresh []) where
   pub IsOwner-renewed : IsOwner t' u'
   IsOwner-renewed = grind arith

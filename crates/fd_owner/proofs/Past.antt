@@ -18,7 +18,7 @@ module _ (t t' : TileImage) (u u' : Undo) where
   module _ (table : Table) (k : ℕ) (event : Event) (state : Pipeline) (next : IsNext event state table k) (filled : IsTileImage t) (owner : IsOwner t u)
       (at : k ≡ length u.frames) (past : IsPast event state t u t' u') where
     abbrev made : TileImage
-    made = record t { made = t'.made }
+    made = record t { made = t'.made; deep = t'.deep }
 
     abbrev begun : Undo
     begun = without_room u.opens_fresh (u.frames ++ [] ∷ [])
@@ -27,7 +27,7 @@ module _ (t t' : TileImage) (u u' : Undo) where
     filled_made = record { colours = filled.colours; depths = filled.depths }
 
     owner_made : IsOwner made u
-    owner_made = IsOwner-made t made u u refl past.made refl owner
+    owner_made = IsOwner-made t made u u refl past.made past.deep refl owner
 
     painted : Paints (pixel_past table k) (kept_past table k) made begun t' u'
     painted = Paints-past table k event state made t' begun u' next.there next.on next.before past.painted
@@ -38,7 +38,7 @@ module _ (t t' : TileImage) (u u' : Undo) where
         ∙ ap (extend table t.place) (history_of-made t made u u refl refl)
 
     pub owner_past : k + 1 < 2 ^ 32 → IsOwner t' u'
-    owner_past fits = IsOwner-step table k made t' u begun u' filled_made owner_made at refl painted fits past.alike
+    owner_past fits = IsOwner-step table k made t' u begun u' filled_made owner_made at refl painted fits past.depths past.alike
 
     pub opens_past : OpensFresh t u → OpensFresh t' u'
     unfolding extend
@@ -50,7 +50,7 @@ module _ (t t' : TileImage) (u u' : Undo) where
     history_same = history_of-made t t' u u' same.tile same.frames
 
     pub owner_same : IsOwner t u → IsOwner t' u'
-    owner_same owner = IsOwner-made t t' u u' same.tile same.made same.frames owner
+    owner_same owner = IsOwner-made t t' u u' same.tile same.made same.deep same.frames owner
 
     pub opens_same : OpensFresh t u → OpensFresh t' u'
     opens_same fresh =

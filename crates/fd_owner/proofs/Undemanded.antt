@@ -72,6 +72,7 @@ pub Paints-over : {after : ℕ → ℕ → Pixel → Pixel} {replaced : ℕ → 
 Paints-over frames opening is = record {
   placed = is.placed;
   made = is.made;
+  deep = is.deep;
   filled = is.filled;
   below = rw frames is.below;
   begun = is.begun;

@@ -2,7 +2,7 @@
 use Rattle.std.specs.Prelude.{◌≡◌, ℕ, suc, ◌+◌, ◌^◌, ◌<◌, [], ◌∷◌, ◌++◌, length, Option, Some, None, Result, IsOk, OnOk, OnErr, true, false}
 use Rattle.fd_tile.specs.declared.place.Place.{Place}
 use Rattle.fd_tile.specs.Tile.{TileImage}
-use Rattle.fd_undo.specs.Frame.{IsAlike, top}
+use Rattle.fd_undo.specs.Frame.{IsAlike, FitDepths, top}
 use Rattle.fd_undo.specs.Undo.{Undo, without_room}
 use Rattle.fd_events.specs.declared.event.Event.{Event}
 use Rattle.fd_events.specs.declared.pipeline.Pipeline.{Pipeline}
@@ -37,18 +37,22 @@ pub record IsNext (event : Event) (state : Pipeline) (table : Table) (k : ℕ) :
 
 -- ---- a tile t and its stack u become t' and u'
 
--- the tile may be made, and all else is the same
+-- the tile may be made, and made deep, and all else is the same
 pub record IsSame (t : TileImage) (u : Undo) (t' : TileImage) (u' : Undo) : Type 0 where
   pub made : t.made ≡ true → t'.made ≡ true
-  pub tile : t' ≡ record t { made = t'.made }
+  pub deep : t.deep ≡ true → t'.deep ≡ true
+  pub tile : t' ≡ record t { made = t'.made; deep = t'.deep }
   pub frames : u'.frames ≡ u.frames
   pub opening : u'.opens_fresh ≡ u.opens_fresh
 
--- an event is drawn in a state on a tile that may be made for it, and what it overwrites is a frame more; on a tile that isn't made it is nothing or all
+-- an event is drawn in a state on a tile that may be made, and made deep, for it, and what it overwrites is a frame more, whose depths have a place; on a tile
+-- that isn't made it is nothing or all
 pub record IsPast (event : Event) (state : Pipeline) (t : TileImage) (u : Undo) (t' : TileImage) (u' : Undo) : Type 0 where
   pub made : t.made ≡ true → t'.made ≡ true
-  pub painted : Paints (pixel_after event state) (kept_by event state) (record t { made = t'.made })
+  pub deep : t.deep ≡ true → t'.deep ≡ true
+  pub painted : Paints (pixel_after event state) (kept_by event state) (record t { made = t'.made; deep = t'.deep })
       (without_room u.opens_fresh (u.frames ++ [] ∷ [])) t' u'
+  pub depths : FitDepths t'.deep (top u'.frames)
   pub alike : t'.made ≡ false → IsAlike t.place (top u'.frames)
 
 -- the event after position k is drawn so

@@ -64,10 +64,13 @@ impl<'a> Next<'a> {
     {
         let mut plan = Plan::empty();
         plan.fill(self.event, self.state, tile.place(), self.first);
-        make_room(plan.demand, tile, undo)?;
+        let deep = fd_draw::writes_deep(self.event, self.state);
+        make_room(plan.demand, deep, tile, undo)?;
         undo.begin();
         // of many small draws most write nothing on a tile
         if plan.demand.pixels > 0 {
+            // where no other depth has a place, all pixels have the greatest
+            let _deep = tile.is_deep();
             fd_draw::draw(self.event, self.state, &plan, tile, undo);
         }
         Ok(())
@@ -110,10 +113,12 @@ fn is_idle(table: &EventTable, position: u32, place: Place) -> bool
     fd_draw::draws_nothing(table.event(number), table.state_before(number), place)
 }
 
-/// Takes the memory that an event wants which writes so much on a tile: that of the tile, where it writes any pixel, and that of what it overwrites.
-fn make_room(demand: Demand, tile: &mut Tile, undo: &mut UndoStack) -> Result<(), Full>
+/// Takes the memory that an event wants which writes so much on a tile: where it writes any pixel that of the tile, and where it may write other depths than
+/// the greatest that of depths, and that of what it overwrites.
+fn make_room(demand: Demand, deep: bool, tile: &mut Tile, undo: &mut UndoStack) -> Result<(), Full>
     ensures same { IsSame tile.old undo.old tile.new undo.new }
     ensures made { OnOk result (0 < demand.pixels → tile.new.made ≡ true) }
+    ensures deep { OnOk result (0 < demand.pixels → deep ≡ true → tile.new.deep ≡ true) }
     ensures room { OnOk result (undo.new ≡ record {
       frames = undo.old.frames;
       opens_fresh = undo.old.opens_fresh;
@@ -124,8 +129,13 @@ fn make_room(demand: Demand, tile: &mut Tile, undo: &mut UndoStack) -> Result<()
     ensures free { demand.spans ≡ 0 → demand.pixels ≡ 0 → length undo.old.frames + 1 < 2 ^ 64 → IsOk result }
     ensures wanted { OnErr result (length undo.old.frames < 4294967295 → Wanted) }
 {
-    if demand.pixels > 0 && tile.make().is_err() {
-        return Err(Full);
+    if demand.pixels > 0 {
+        if deep && tile.deepen().is_err() {
+            return Err(Full);
+        }
+        if tile.make().is_err() {
+            return Err(Full);
+        }
     }
     undo.reserve(demand.spans, demand.pixels)
 }

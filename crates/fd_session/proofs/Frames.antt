@@ -239,7 +239,7 @@ all_more owners i o was low below less here all =
 pub one_more : (f : Bool) (table : Table) (size : TargetSize) (count : ℕ) (owners : List Shown) (place : Place) (tile : TileImage) (o : Shown)
     → size ≡ size_of table → places_of owners ≡ first_places size count → All (Stands f table 0) owners
     → place ≡ place_of size count → (place.left + place.width ≤ size.width) × (place.top + place.height ≤ size.height)
-    → tile ≡ record (painted place (λ _ _. fresh_pixel)) { made = false }
+    → tile ≡ record (painted place (λ _ _. fresh_pixel)) { made = false; deep = false }
     → o ≡ record { place = tile.place; history = record { opening = pixels_of tile; frames = [] }; refusals = 0; refused_at = None }
     → (places_of (owners ++ o ∷ []) ≡ first_places size (count + 1)) × All (Stands f table 0) (owners ++ o ∷ [])
 one_more f table size count owners place tile o sized places each is within paints made =

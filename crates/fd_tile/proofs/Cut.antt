@@ -1,7 +1,7 @@
 -- Rows that stand one after the other in a list.
 use Rattle.std.proofs.Common.{◌≡◌, ℕ, zero, suc, ◌+◌, ◌-◌, ◌*◌, ◌<◌, ◌≤◌, List, [], ◌∷◌, ◌++◌, length, get_or, take, drop, replicate, refl, sym, ap}
 use Rattle.std.proofs.Common.{◌∙◌, arith, append_assoc, length-append, length-drop, Option, Bool, true, false}
-use Rattle.std.specs.Prelude.{slice_set, unwrap_or, All, if◌then◌else◌}
+use Rattle.std.specs.Prelude.{slice_set, unwrap_or, All, if◌then◌else◌, ◌&&◌}
 use Rattle.std.proofs.Math.Nat.{zero-mul, suc-mul, add-mul, mul-le-mul_right}
 use Rattle.std.proofs.lemmas.Nat.{row_fits}
 use Rattle.std.proofs.lemmas.List.{take-take, take-append-le, drop-append-le, drop-drop, drop-take, length-take-le}
@@ -152,28 +152,29 @@ pub rows_within : (p : Place) (size y start count n : ℕ) → size ≡ p.height
 rows_within p size y start count n counted low high begins wide = omega (arith, rows_fit (y - p.top) count p.height p.width (omega arith))
 
 -- rows in the place of as many others are those, set one after another
-rows_set : (p : Place) (depths : List (List ℕ)) (y : ℕ) (front old new back : List (List Colour)) → p.top ≤ y → length front ≡ y - p.top
-    → length old ≡ length new → of_rows p (front ++ (new ++ back)) depths ≡ with_rows_from (of_rows p (front ++ (old ++ back)) depths) y new
-rows_set p depths y front [] [] back low at same = refl
-rows_set p depths y front [] (n ∷ new) back low at same = absurd (omega arith)
-rows_set p depths y front (o ∷ old) [] back low at same = absurd (omega arith)
-rows_set p depths y front (o ∷ old) (n ∷ new) back low at same =
+rows_set : (p : Place) (depths : List (List ℕ)) (deep : Bool) (y : ℕ) (front old new back : List (List Colour)) → p.top ≤ y → length front ≡ y - p.top
+    → length old ≡ length new → of_rows p (front ++ (new ++ back)) depths deep ≡ with_rows_from (of_rows p (front ++ (old ++ back)) depths deep) y new
+rows_set p depths deep y front [] [] back low at same = refl
+rows_set p depths deep y front [] (n ∷ new) back low at same = absurd (omega arith)
+rows_set p depths deep y front (o ∷ old) [] back low at same = absurd (omega arith)
+rows_set p depths deep y front (o ∷ old) (n ∷ new) back low at same =
     let next : length (front ++ o ∷ []) ≡ y + 1 - p.top = omega (arith, length-append front (o ∷ [])) in
-    ap (λ rows. of_rows p rows depths) (sym (set_at front o (new ++ back) n (y - p.top) at) ∙ ap (λ l. slice_set l (y - p.top) n)
+    ap (λ rows. of_rows p rows depths deep) (sym (set_at front o (new ++ back) n (y - p.top) at) ∙ ap (λ l. slice_set l (y - p.top) n)
     (sym (append_assoc front (o ∷ []) (new ++ back))))
-    ∙ ap (λ t. with_row t y n) (rows_set p depths (y + 1) (front ++ o ∷ []) old new back (omega arith) next (omega arith)
-    ∙ ap (λ rows. with_rows_from (of_rows p rows depths) (y + 1) new) (append_assoc front (o ∷ []) (old ++ back)))
+    ∙ ap (λ t. with_row t y n) (rows_set p depths deep (y + 1) (front ++ o ∷ []) old new back (omega arith) next (omega arith)
+    ∙ ap (λ rows. with_rows_from (of_rows p rows depths deep) (y + 1) new) (append_assoc front (o ∷ []) (old ++ back)))
 
-pub put_rows_is : (p : Place) (items : List Colour) (depths : List (List ℕ)) (y start count : ℕ) (new : List Colour) → length items ≡ p.height * p.width
-    → p.top ≤ y → y + count ≤ p.top + p.height
+pub put_rows_is : (p : Place) (items : List Colour) (depths : List (List ℕ)) (deep : Bool) (y start count : ℕ) (new : List Colour)
+    → length items ≡ p.height * p.width → p.top ≤ y → y + count ≤ p.top + p.height
     → start ≡ (y - p.top) * p.width → length new ≡ count * p.width
-    → of_rows p (rows_over p (pasted_at start new items)) depths ≡ with_rows_from (of_rows p (rows_over p items) depths) y (cut_rows p.width count new)
-put_rows_is p items depths y start count new counted low high begins wide =
+    → of_rows p (rows_over p (pasted_at start new items)) depths deep
+    ≡ with_rows_from (of_rows p (rows_over p items) depths deep) y (cut_rows p.width count new)
+put_rows_is p items depths deep y start count new counted low high begins wide =
     let w : ℕ = p.width in
     let within : y - p.top + count ≤ p.height = omega arith in
     let long : p.height * p.width ≤ length items = omega arith in
     rw (begins, rows_parted w (y - p.top) count p.height items within long new wide, rows_now w (y - p.top) count p.height items within long)
-    (rows_set p depths y _ _ _ _ low (length-cut_rows w (y - p.top) _) (length-cut_rows w count _ ∙ sym (length-cut_rows w count new)))
+    (rows_set p depths deep y _ _ _ _ low (length-cut_rows w (y - p.top) _) (length-cut_rows w count _ ∙ sym (length-cut_rows w count new)))
 
 -- ---- a tile's fields
 pub FillsPlace-flat : {X : Type 0} (p : Place) (value : X) → IsTilePlace p → FillsPlace p (flat_over p value)
@@ -189,12 +190,19 @@ pub FillsPlace-shown : {X : Type 0} (p : Place) (made : Bool) (items : List X) (
 FillsPlace-shown p true items value placed counted = FillsPlace-rows_over p items (counted refl) placed
 FillsPlace-shown p false items value placed counted = FillsPlace-flat p value placed
 
-pub IsTile-filled : (p : Place) (made : Bool) (colours : List Colour) (depths : List ℕ) (colour : Option Colour) (depth : Option ℕ)
-    → IsTile p made colours depths colour depth
-    → IsTileImage (record { place = p; rows = rows_shown made p colours colour fresh; depths = rows_shown made p depths depth 65535; made = made })
-IsTile-filled p made colours depths colour depth i = record {
+pub IsTile-filled : (p : Place) (made deep : Bool) (colours : List Colour) (depths : List ℕ) (colour : Option Colour) (depth : Option ℕ)
+    → IsTile p made deep colours depths colour depth
+    → IsTileImage
+    (record {
+      place = p;
+      rows = rows_shown made p colours colour fresh;
+      depths = rows_shown (made && deep) p depths depth 65535;
+      made = made;
+      deep = deep;
+    })
+IsTile-filled p made deep colours depths colour depth i = record {
   colours = FillsPlace-shown p made colours (unwrap_or colour fresh) i.placed i.counted;
-  depths = FillsPlace-shown p made depths (unwrap_or depth 65535) i.placed i.deep_counted;
+  depths = FillsPlace-shown p (made && deep) depths (unwrap_or depth 65535) i.placed i.deep_counted;
 }
 
 -- one value everywhere

@@ -11,7 +11,7 @@ use Rattle.fd_tile.specs.Tile.{TileImage, IsTileImage}
 use Rattle.fd_undo.specs.Frame.{KeptPixel, restored, all_restored, KeepsAll}
 use Rattle.fd_undo.specs.Block.{KeptFrame, Filled, found, Rise, newest, others}
 use Rattle.fd_undo.specs.Stack.{frames_from, stored_in, all_stored, pixels_stored}
-use Rattle.fd_undo.proofs.Restored.{Inside, restored-place, restored-made}
+use Rattle.fd_undo.proofs.Restored.{Inside, restored-place, restored-made, restored-deep}
 use Rattle.fd_undo.proofs.Pixelwise.{IsTileImage-restored, corner, restored-whole}
 use Rattle.fd_undo.proofs.StackLemmas.{found-frames, rise-back, block_rise, kept_in_block, kept_in_last, length-frames, frames-grow, Newest, newest_stored}
 use Rattle.fd_undo.proofs.RowLemmas.{tail_is}
@@ -29,6 +29,10 @@ all_restored-empty (suc n) t = all_restored-empty n t
 pub all_restored-place : (frames : List (List KeptPixel)) (t : TileImage) → (all_restored frames t).place ≡ t.place
 all_restored-place [] t = refl
 all_restored-place (f ∷ frames) t = restored-place f (all_restored frames t) ∙ all_restored-place frames t
+
+pub all_restored-deep : (frames : List (List KeptPixel)) (t : TileImage) → (all_restored frames t).deep ≡ t.deep
+all_restored-deep [] t = refl
+all_restored-deep (f ∷ frames) t = restored-deep f (all_restored frames t) ∙ all_restored-deep frames t
 
 pub all_restored-made : (frames : List (List KeptPixel)) (t : TileImage) → (all_restored frames t).made ≡ t.made
 all_restored-made [] t = refl
@@ -90,7 +94,8 @@ back-whole to frames left t front (inr whole) filled inside =
     let n : ℕ = whole.0 in
     let gone : List (List KeptPixel) = drop (n + 1) frames in
     let within : n < length frames = omega (arith, ap length front, length-take (length left) frames, whole.2) in
-    let one = restored-whole (get_or frames n []) t (all_restored gone t) (all_restored-place gone t) (all_restored-made gone t) filled
+    let one = restored-whole (get_or frames n []) t (all_restored gone t) (all_restored-place gone t) (all_restored-made gone t)
+    (all_restored-deep gone t) filled
     (IsTileImage-all_restored gone t filled (All-drop (λ frame. Inside t.place frame) (n + 1) frames inside)) (inside n [] within) whole.3 in
     let cut = take-append-drop n frames in
     grind (arith, one, cut, take_more frames n [] within, drop_more frames n [] within, drop-append-le, all_restored-append, length-take)

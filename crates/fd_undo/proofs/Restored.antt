@@ -1,12 +1,13 @@
 -- Kept pixels that are written back: pixels, rows, and whole rows at once.
 use Rattle.std.proofs.lemmas.Bool.Decides.{nat_tests}
 use Rattle.std.proofs.lemmas.Grind.{common_steps}
-use Rattle.std.proofs.Common.{◌≡◌, ℕ, zero, suc, ◌+◌, ◌-◌, ◌*◌, ◌<◌, ◌≤◌, List, [], ◌∷◌, ◌++◌, length, take, drop, refl, arith, length-append, length-drop}
+use Rattle.std.proofs.Common.{inl, inr, ◌≡◌, ℕ, zero, suc, ◌+◌, ◌-◌, ◌*◌, ◌<◌, ◌≤◌, Bool, List, [], ◌∷◌, ◌++◌, length, take, drop, replicate, refl, arith}
+use Rattle.std.proofs.Common.{Option, Some, None, length-append, length-drop}
 use Rattle.std.specs.Prelude.{slice_set, All, IsSomeAnd}
 use Rattle.std.proofs.lemmas.List.{take_more, set_at, length-take, drop_all, drop-drop, append-nil, get_or_append_left, take-replicate, drop-replicate}
 use Rattle.std.proofs.lemmas.List.{replicate-append-replicate, get_or-set_same}
 use borrow.Rule.Slice.PartMut.{put_mid, same_len_mid}
-use Rattle.std.proofs.lemmas.List.Elements.{All-append}
+use Rattle.std.proofs.lemmas.List.Elements.{All-append, All-nil, All-cons}
 use Rattle.fd_blend.specs.declared.channel.Colour.{Colour}
 use Rattle.fd_tile.specs.declared.place.Place.{Place}
 use Rattle.fd_tile.specs.Place.{Holds, HasRow}
@@ -14,9 +15,10 @@ use Rattle.std.specs.List.{zip}
 use Rattle.fd_tile.specs.Tile.{Pixel, TileImage, IsFlat, IsTileImage, row_of, depth_row_of, with_row, with_depth_row, with_row_left, with_rows_from, cut_rows}
 use Rattle.fd_tile.proofs.Pixels.{length-row_in, left_row_is, row_in-flat, with_row_in-twice, with_row_in-as_it_is, IsTileImage-with_row}
 use Rattle.fd_undo.specs.Span.{Span}
-use Rattle.fd_undo.specs.Frame.{KeptPixel, kept_row, kept_rows, kept_at, restored}
-use Rattle.fd_undo.specs.Whole.{AreWholeRows, HoldsSpan}
-use Rattle.fd_undo.specs.Rows.{row_colours, row_depths, listed_colours, listed_depths, colours_in, pixels_of_row, span_pixels, row_of_span}
+use Rattle.fd_undo.specs.Frame.{KeptPixel, kept_row, kept_rows, kept_at, restored, FitDepths}
+use Rattle.fd_undo.specs.Whole.{AreWholeRows, HoldsSpan, IsAsDeep}
+use Rattle.fd_undo.specs.Rows.{row_colours, row_depths, listed_colours, listed_depths, colours_in, depths_in, values_in}
+use Rattle.fd_undo.specs.Rows.{pixels_of_row, span_pixels, row_of_span}
 use Rattle.fd_undo.proofs.RowLemmas.{length-pixels_of_row, length-colours_in, length-depths_in, colours_behind, depths_behind, span_pixels-none, tail_is}
 use Rattle.fd_undo.proofs.KeptAt.{kept_at-span, kept_at-append}
 
@@ -56,6 +58,40 @@ pub restored-made : (ks : List KeptPixel) (t : TileImage) → (restored ks t).ma
 restored-made [] t = refl
 restored-made (k ∷ ks) t = restored-made ks t
 
+pub restored-deep : (ks : List KeptPixel) (t : TileImage) → (restored ks t).deep ≡ t.deep
+restored-deep [] t = refl
+restored-deep (k ∷ ks) t = restored-deep ks t
+
+-- ---- depths that a tile has a place for
+All-front : {X : Type 0} (P : X → Type 0) (xs ys : List X) → All P (xs ++ ys) → All P xs
+All-front P [] ys all = All-nil P
+All-front P (x ∷ xs) ys all = All-cons P x xs (all 0 x (omega arith)) (All-front P xs ys (λ i d below. all (suc i) d (omega (arith, below))))
+
+All-rest : {X : Type 0} (P : X → Type 0) (xs ys : List X) → All P (xs ++ ys) → All P ys
+All-rest P [] ys all = all
+All-rest P (x ∷ xs) ys all = All-rest P xs ys (λ i d below. all (suc i) d (omega (arith, below)))
+
+-- a frame that keeps nothing has none
+pub fit-nothing : (deep : Bool) → FitDepths deep []
+fit-nothing deep = record { greatest = λ _. All-nil (λ (k : KeptPixel). k.pixel.1 ≡ 65535) }
+
+-- those of a frame's parts
+pub fit_front : (deep : Bool) (ks ls : List KeptPixel) → FitDepths deep (ks ++ ls) → FitDepths deep ks
+fit_front deep ks ls fit = record { greatest = λ not. All-front (λ (k : KeptPixel). k.pixel.1 ≡ 65535) ks ls (fit.greatest not) }
+
+pub fit_rest : (deep : Bool) (ks ls : List KeptPixel) → FitDepths deep (ks ++ ls) → FitDepths deep ls
+fit_rest deep ks ls fit = record { greatest = λ not. All-rest (λ (k : KeptPixel). k.pixel.1 ≡ 65535) ks ls (fit.greatest not) }
+
+-- those of a row
+row_greatest : (x y : ℕ) (cs : List Colour) (ds : List ℕ) → length ds ≡ length cs → All (λ k. k.pixel.1 ≡ 65535) (kept_row x y (zip cs ds))
+    → ds ≡ replicate (length ds) 65535
+row_greatest x y cs [] equal all = refl
+row_greatest x y [] (d ∷ ds) equal all = absurd (omega arith)
+row_greatest x y (c ∷ cs) (d ∷ ds) equal all =
+    let first : d ≡ 65535 = all 0 (record { x = x; y = y; pixel = (c, d) }) (omega arith) in
+    let later = row_greatest (x + 1) y cs ds (omega arith) (λ i k below. all (suc i) k (omega (arith, below))) in
+    cc (first, later)
+
 -- the last of some spans is put back first; where it has pixels it lies in the place
 pub last_restored : (ks : List KeptPixel) (s : Span) (cs : List Colour) (ds : List ℕ) (t : TileImage) → listed_colours s ≤ length cs
     → listed_depths s ≤ length ds → Inside t.place (ks ++ span_pixels s cs ds)
@@ -88,12 +124,28 @@ pub ruleset row_parts = (left_row_is, same_len_mid, length-row_in, length-take, 
 
 pub ruleset span_values = (length-colours_in, length-depths_in, colours_behind, depths_behind, length-drop)
 
+-- those of a span that has one
+values_flat : (known : Option ℕ) (n : ℕ) (ds : List ℕ) (P : ℕ → Type 0) → IsSomeAnd known P → (depth : ℕ) × (values_in known n ds ≡ replicate n depth) × P depth
+values_flat (Some depth) n ds P is = (depth, refl, is)
+values_flat None n ds P is = absurd is
+
+-- its depths, where all pixels are as deep
+one_depth : (t : TileImage) (s : Span) (y : ℕ) (cs : List Colour) (ds : List ℕ) → row_colours s ≤ length cs → row_depths s ≤ length ds
+    → FitDepths t.deep (row_of_span s y cs ds) → IsAsDeep t s → (depth : ℕ) × (depths_in s ds ≡ replicate s.len depth) × IsFlat t.place t.depths depth
+one_depth t s y cs ds counted deep_counted fit (inl shallow) =
+    let colours = length-colours_in s cs counted in
+    let depths = length-depths_in s ds deep_counted in
+    let all = row_greatest s.x y (colours_in s cs) (depths_in s ds) (omega arith) (fit.greatest shallow.0) in
+    (65535, rw depths at all, shallow.1)
+one_depth t s y cs ds counted deep_counted fit (inr flat) = values_flat s.same_depth s.len ds (λ depth. IsFlat t.place t.depths depth) flat
+
 -- where all pixels are as deep as its own, their depths stand
 pub row_flat : (t : TileImage) (s : Span) (y : ℕ) (cs : List Colour) (ds : List ℕ) → row_colours s ≤ length cs → row_depths s ≤ length ds → IsTileImage t
-    → Holds t.place s.x y → s.x + s.len ≤ t.place.left + t.place.width → IsSomeAnd s.same_depth (λ depth. IsFlat t.place t.depths depth)
+    → Holds t.place s.x y → s.x + s.len ≤ t.place.left + t.place.width → FitDepths t.deep (row_of_span s y cs ds) → IsAsDeep t s
     → restored (row_of_span s y cs ds) t ≡ with_row_left t y (put_mid (s.x - t.place.left) s.len (row_of t y) (colours_in s cs))
-row_flat t s y cs ds counted deep_counted filled first within flat =
-    grind (arith, row_restored, row_parts, span_values, row_in-flat, take-replicate, drop-replicate, replicate-append-replicate, with_row_in-as_it_is)
+row_flat t s y cs ds counted deep_counted filled first within fit flat =
+    let one = one_depth t s y cs ds counted deep_counted fit flat in
+    grind (arith, one, row_restored, row_parts, span_values, row_in-flat, take-replicate, drop-replicate, replicate-append-replicate, with_row_in-as_it_is)
 
 -- ---- whole rows: the last of them is put back first
 with_rows_from-last : (t : TileImage) (y w n : ℕ) (cs : List Colour) → with_rows_from t y (cut_rows w (suc n) cs)
@@ -102,17 +154,43 @@ with_rows_from-last t y w zero cs = grind arith
 with_rows_from-last t y w (suc n) cs = grind (arith, with_rows_from-last t (y + 1) w n (drop w cs), drop-drop)
 
 pub rows_whole : (s : Span) (cs : List Colour) (ds : List ℕ) (n : ℕ) (t : TileImage) → length cs ≡ listed_colours s → length ds ≡ listed_depths s → n ≤ s.rows
-    → IsTileImage t → HoldsSpan t.place s → AreWholeRows t s
+    → IsTileImage t → HoldsSpan t.place s → FitDepths t.deep (kept_rows s.x s.y n (pixels_of_row s cs ds)) → AreWholeRows t s
     → restored (kept_rows s.x s.y n (pixels_of_row s cs ds)) t ≡ with_rows_from t s.y (cut_rows t.place.width n cs)
-rows_whole s cs ds zero t counted deep_counted above filled lies is = refl
-rows_whole s cs ds (suc n) t counted deep_counted above filled lies is =
-    grind (arith, rows_whole s cs ds n, restored-append, row_flat, span_values, row_parts, IsTileImage-with_row, drop_all, append-nil, with_rows_from-last)
+rows_whole s cs ds zero t counted deep_counted above filled lies fit is = refl
+rows_whole s cs ds (suc n) t counted deep_counted above filled lies fit is =
+    let front = fit_front t.deep (kept_rows s.x s.y n (pixels_of_row s cs ds)) (kept_row s.x (s.y + n) (pixels_of_row s cs ds n)) fit in
+    let last = fit_rest t.deep (kept_rows s.x s.y n (pixels_of_row s cs ds)) (kept_row s.x (s.y + n) (pixels_of_row s cs ds n)) fit in
+    grind (
+      arith,
+      front,
+      last,
+      rows_whole s cs ds n,
+      restored-append,
+      row_flat,
+      span_values,
+      row_parts,
+      IsTileImage-with_row,
+      drop_all,
+      append-nil,
+      with_rows_from-last,
+    )
 
 pub kept_rows-last : (x y n : ℕ) (pixels : ℕ → List Pixel) → 0 < n
     → kept_rows x y n pixels ≡ kept_rows x y (n - 1) pixels ++ kept_row x (y + (n - 1)) (pixels (n - 1))
 kept_rows-last x y n pixels some = grind arith
 
 -- ---- what the goals of some functions want, which name it in their attributes
-pub ruleset put_spans_steps = (last_restored, restored-place, restored-made)
+pub ruleset put_spans_steps = (last_restored, restored-place, restored-made, restored-deep, fit_front, fit_rest)
 
-pub ruleset put_back_steps = (span_pixels-none, rows_whole, tail_is, kept_rows-last, restored-append, restored-place, restored-made)
+pub ruleset put_back_steps = (
+  span_pixels-none,
+  rows_whole,
+  tail_is,
+  kept_rows-last,
+  restored-append,
+  restored-place,
+  restored-made,
+  restored-deep,
+  fit_front,
+  fit_rest,
+)

@@ -2,10 +2,10 @@ ghost use Rattle.std.specs.Prelude.{◌≡◌, ◌+◌, ◌-◌, ◌<◌, ◌≤
 ghost use borrow.Rule.Slice.PartMut.{put_mid};
 ghost use Rattle.fd_tile.specs.Place.{Holds};
 ghost use Rattle.fd_tile.specs.Tile.{row_of, with_row_left, IsFlat, IsTileImage};
-ghost use Rattle.fd_undo.specs.Frame.{restored, IsAlike};
+ghost use Rattle.fd_undo.specs.Frame.{restored, IsAlike, FitDepths};
 ghost use Rattle.fd_undo.specs.Rows.{row_colours, listed_colours, colours_in, row_depths, listed_depths, depths_in, row_of_span, span_pixels};
 ghost use Rattle.fd_undo.specs.SpanSlices.{AreSpanSlices, kept_in_slices};
-ghost use Rattle.fd_undo.specs.Whole.{AreWholeRows, HoldsSpan};
+ghost use Rattle.fd_undo.specs.Whole.{AreWholeRows, HoldsSpan, IsAsDeep};
 
 use crate::kept::kept_in;
 use crate::span::Span;
@@ -18,6 +18,7 @@ use fd_tile::{Tile, fill};
 pub(crate) fn put_frame(slices: SpanSlices<'_>, tile: &mut Tile)
     requires whole { AreSpanSlices slices }
     requires alike { tile.old.made ≡ false → IsAlike tile.old.place (kept_in_slices slices) }
+    requires depths { FitDepths tile.old.deep (kept_in_slices slices) }
     requires inside { All (λ k. Holds tile.old.place k.x k.y) (kept_in_slices slices) }
     ensures { tile.new ≡ restored (kept_in_slices slices.entry) tile.old }
 {
@@ -34,6 +35,7 @@ pub(crate) fn put_frame(slices: SpanSlices<'_>, tile: &mut Tile)
 fn put_alike(slices: SpanSlices<'_>, tile: &mut Tile)
     requires whole { AreSpanSlices slices }
     requires alike { IsAlike tile.old.place (kept_in_slices slices) }
+    requires depths { FitDepths tile.old.deep (kept_in_slices slices) }
     ensures { tile.new ≡ restored (kept_in_slices slices.entry) tile.old }
 {
     let place = tile.place();
@@ -43,20 +45,21 @@ fn put_alike(slices: SpanSlices<'_>, tile: &mut Tile)
     }
 }
 
-/// Where some spans have all rows of a tile all its pixels are made as deep as the first of them: those that are so deep then need their colours alone, and
-/// the tile knows of its depth.
+/// Where some spans have all rows of a deep tile all its pixels are made as deep as the first of them: those that are so deep then need their colours alone,
+/// and the tile knows of its depth.
 fn level(slices: SpanSlices<'_>, tile: &mut Tile)
     requires whole { AreSpanSlices slices }
     requires inside { All (λ k. Holds tile.old.place k.x k.y) (kept_in_slices slices) }
     ensures place { tile.new.place ≡ tile.old.place }
     ensures made { tile.new.made ≡ tile.old.made }
+    ensures deep { tile.new.deep ≡ tile.old.deep }
     ensures same { restored (kept_in_slices slices.entry) tile.new ≡ restored (kept_in_slices slices.entry) tile.old }
 {
     let spans = slices.spans;
     let place = tile.place();
     if let [first, ..] = spans {
         if let Some(deep) = first.same_depth() {
-            if have_all_rows(spans, place) {
+            if tile.is_deep() && have_all_rows(spans, place) {
                 tile.fill_depths(deep);
             }
         }
@@ -68,6 +71,7 @@ fn level(slices: SpanSlices<'_>, tile: &mut Tile)
 fn put_spans(slices: SpanSlices<'_>, tile: &mut Tile)
     requires made { tile.old.made ≡ true }
     requires whole { AreSpanSlices slices }
+    requires depths { FitDepths tile.old.deep (kept_in_slices slices) }
     requires inside { All (λ k. Holds tile.old.place k.x k.y) (kept_in_slices slices) }
     ensures { tile.new ≡ restored (kept_in_slices slices.entry) tile.old }
 {
@@ -86,6 +90,7 @@ fn put_back(tile: &mut Tile, span: &Span, colours: &[Colour], depths: &[u16])
     requires counted { length colours.now ≡ listed_colours span.now }
     requires depths_counted { length depths.now ≡ listed_depths span.now }
     requires lies { 1 ≤ span.now.rows → 0 < span.now.len → HoldsSpan tile.old.place span.now }
+    requires depths { FitDepths tile.old.deep (span_pixels span.now colours.now depths.now) }
     ensures { tile.new ≡ restored (span_pixels span.now colours.now depths.now) tile.old }
 {
     if span.len() == 0 {
@@ -118,6 +123,7 @@ fn are_whole_rows(tile: &Tile, span: &Span) -> bool
 #[tactic(auto, using(crate::proofs::Restored::row_flat))]
 fn put_row(tile: &mut Tile, span: &Span, y: u32, colours: &[Colour], depths: &[u16])
     requires made { tile.old.made ≡ true }
+    requires depths { FitDepths tile.old.deep (row_of_span span.now y colours.now depths.now) }
     requires counted { row_colours span.now ≤ length colours.now }
     requires depths_counted { row_depths span.now ≤ length depths.now }
     requires first { Holds tile.old.place span.now.x y }
@@ -131,10 +137,14 @@ fn put_row(tile: &mut Tile, span: &Span, y: u32, colours: &[Colour], depths: &[u
     }
 }
 
-/// Whether all pixels of the tile are as deep as a span's.
+/// Whether all pixels of the tile are as deep as a span's, as those of a tile are that isn't deep.
 fn is_flat(tile: &Tile, span: &Span) -> bool
-    ensures { result ≡ true → IsSomeAnd span.now.same_depth (λ depth. IsFlat tile.now.place tile.now.depths depth) }
+    ensures as_deep { result ≡ true → IsAsDeep tile.now span.now }
+    ensures deep { result ≡ false → tile.now.deep ≡ true }
 {
+    if !tile.is_deep() {
+        return true;
+    }
     match (span.same_depth(), tile.flat_depth()) {
         (Some(depth), Some(flat)) => depth == flat,
         _ => false,
@@ -160,6 +170,7 @@ fn put_colours(tile: &mut Tile, span: &Span, y: u32, listed: &[Colour])
 #[tactic(auto, using(crate::proofs::Restored::row_restored, crate::proofs::Restored::row_parts, crate::proofs::Restored::span_values))]
 fn put_both(tile: &mut Tile, span: &Span, y: u32, colours: &[Colour], depths: &[u16])
     requires made { tile.old.made ≡ true }
+    requires deep { tile.old.deep ≡ true }
     requires counted { row_colours span.now ≤ length colours.now }
     requires depths_counted { row_depths span.now ≤ length depths.now }
     requires first { Holds tile.old.place span.now.x y }

@@ -210,7 +210,8 @@ impl Store {
     pub(crate) fn is_stored(&mut self, alloc: Global, from: usize) -> bool
         ensures same { all_stored self.new.full self.new.last ≡ all_stored self.old.full self.old.last }
         ensures yes { result ≡ true → (0 < length self.new.last.frames) × (from ≤ (newest self.new.last.frames).number) }
-        ensures no { result ≡ false → (count : ℕ) → Rise 0 (all_stored self.new.full self.new.last) count → Rise 0 (all_stored self.new.full self.new.last) from }
+        ensures no { result ≡ false → (count : ℕ) → Rise 0 (all_stored self.new.full self.new.last) count
+            → Rise 0 (all_stored self.new.full self.new.last) from }
     {
         if let Some(body) = &mut self.body {
             return body.is_stored(alloc, from);

@@ -276,6 +276,50 @@ fn a_tile_is_made_when_it_is_drawn_on(rt: HostRuntime) -> Result<(), Fail> {
     Ok(())
 }
 
+/// A draw with the depth test off, a clear of depths to the greatest and one to another depth, each time a draw behind them.
+fn depths_cleared(alloc: Global) -> Result<EventTable, Fail> {
+    let half = (UPPER_LEFT, colour(0, 255, 0, 255), 0);
+    let mut events = Vec::new(alloc);
+    events.push(flat(alloc, &[half])?)?;
+    for depth in [65535, 7] {
+        events.push(Event::DepthClear(depth))?;
+        events.push(flat(alloc, &[half])?)?;
+    }
+    start(alloc, (2, 2), events)
+}
+
+/// Depths take memory with the first of them that isn't the greatest.
+#[test]
+fn a_tile_is_made_deep_by_another_depth(rt: HostRuntime) -> Result<(), Fail> {
+    let alloc = rt.alloc();
+    let table = depths_cleared(alloc)?;
+    let mut owner = of_blank_tile(alloc, FOUR);
+    let green = colour(0, 255, 0, 255);
+    let passed = [
+        (0, (colour(0, 0, 0, 0), 65535)),
+        (1, (green, 65535)),
+        (5, (green, 65535)),
+        (6, (green, 65535)),
+        (10, (green, 7)),
+        (11, (green, 7)),
+    ];
+    for (position, (recorded, pixel)) in passed.iter().enumerate() {
+        assert_eq!(rt; shown(&owner), (position as u32, *recorded, *pixel));
+        assert_eq!(rt; owner.tile.is_deep(), position > 3);
+        if position < 5 {
+            forward(&mut owner, &table)?;
+        }
+    }
+    for (position, (recorded, pixel)) in passed.iter().enumerate().rev() {
+        assert_eq!(rt; shown(&owner), (position as u32, *recorded, *pixel));
+        if position > 0 {
+            back(&mut owner)?;
+        }
+    }
+    assert!(rt; !owner.tile.is_deep());
+    Ok(())
+}
+
 /// Clears of which the first is switched off, with a state between two of them, and a draw before the last.
 fn clears_and_a_draw(alloc: Global) -> Result<EventTable, Fail> {
     let half = (UPPER_LEFT, colour(0, 255, 0, 255), 0);

@@ -75,12 +75,13 @@ fn keep(undo: &mut UndoStack, x: u32, y: u32, old: &[Colour], depths: &[u16]) ->
     Ok(())
 }
 
-/// A small tile that is made, and a stack whose frames lie on it.
+/// A small tile that is made and deep, and a stack whose frames lie on it.
 #[derive(Drop)]
 struct Small {
     tile: Tile,
     undo: UndoStack,
     ghost made: { tile.made ≡ true },
+    ghost deep: { tile.deep ≡ true },
     ghost placed: { tile.place ≡ record { left = 0; top = 0; width = 2; height = 2 } },
     ghost inside: { All (λ frame. All (λ k. Holds tile.place k.x k.y) frame) undo.frames },
 }

@@ -119,6 +119,25 @@ fn tile_make(rt: HostRuntime) -> Result<(), Fail> {
     Ok(())
 }
 
+/// A tile that gets depths late: nothing changes where there is no memory.
+#[test]
+fn tile_deepen(rt: HostRuntime) -> Result<(), Fail> {
+    let mut tile = Tile::blank(rt.alloc(), PLACE);
+    tile.make()?;
+    println!(rt; "ready")?;
+    if tile.deepen().is_ok() {
+        println!(rt; "told Ok")?;
+    } else {
+        println!(rt; "told Memory")?;
+        assert!(rt; !tile.is_deep());
+        assert_eq!(rt; tile.depth(31, 0), 65535);
+        assert!(rt; tile.deepen().is_ok());
+    }
+    assert!(rt; tile.is_deep());
+    assert_eq!(rt; tile.flat_depth(), Some(65535));
+    Ok(())
+}
+
 #[test]
 fn undo_push_alike(rt: HostRuntime) -> Result<(), Fail> {
     let deep = Place {

@@ -2,7 +2,7 @@ ghost use Rattle.std.specs.Prelude.{◌≤◌};
 
 use fd_blend::Colour;
 use fd_cover::{Bounds, Cull, Depth, Func, Interp, Raster, Rect};
-use fd_draw::{Demand, Plan, box_of, clear_alike, draw, draws_nothing, first_listed};
+use fd_draw::{Demand, Plan, box_of, clear_alike, draw, draws_nothing, first_listed, writes_deep};
 use fd_events::{Draw, Event, Picture, Pipeline, Vertex};
 use fd_snap::Pos;
 use fd_tile::{Place, Tile};
@@ -104,7 +104,8 @@ fn canvas_of(alloc: Global, tile: Tile) -> Canvas {
 /// Draws an event, with room for just what it writes.
 fn draw_with_room(canvas: &mut Canvas, event: &Event, state: &Pipeline) -> Result<(), Fail> {
     let place = canvas.tile.place();
-    if !canvas.tile.is_made() {
+    let is_flat = !canvas.tile.is_deep();
+    if !canvas.tile.is_made() || (is_flat && writes_deep(event, state)) {
         return Err(Fail::from("no made tile"));
     }
     let first = first_listed(event, place).ok_or("listed")?;
@@ -237,11 +238,44 @@ fn a_clear_of_alike_pixels_keeps_one_colour(rt: HostRuntime) -> Result<(), Fail>
     assert!(rt; !clear_alike(&event, &mut canvas.tile, &mut canvas.undo)?);
     assert!(rt; clear_alike(&Event::Clear(grey(7)), &mut canvas.tile, &mut canvas.undo)?);
     assert!(rt; clear_alike(&Event::DepthClear(9), &mut canvas.tile, &mut canvas.undo)?);
-    assert!(rt; !canvas.tile.is_made());
+    assert!(rt; !canvas.tile.is_made() && canvas.tile.is_deep());
     expect_recorded(&rt, &canvas.undo, 8);
     expect_pixel(&rt, &canvas.tile, (1, 1), 7, 9);
     expect_kept(&rt, &canvas.undo, 0, (1, 1), &[0]);
     expect_kept(&rt, &canvas.undo, 1, (1, 1), &[7]);
+    Ok(())
+}
+
+/// On a tile that is made and isn't deep: a clear of depths to the greatest is kept so too, and one to another depth is left to others.
+#[test]
+fn a_clear_of_depths_may_want_memory(rt: HostRuntime) -> Result<(), Fail> {
+    let mut tile = Tile::blank(rt.alloc(), CORNER);
+    tile.make()?;
+    let mut canvas = canvas_of(rt.alloc(), tile);
+    assert!(rt; !clear_alike(&Event::DepthClear(9), &mut canvas.tile, &mut canvas.undo)?);
+    assert!(rt;
+        clear_alike(
+            &Event::DepthClear(65535),
+            &mut canvas.tile,
+            &mut canvas.undo
+        )?
+    );
+    assert!(rt; !canvas.tile.is_deep());
+    expect_recorded(&rt, &canvas.undo, 4);
+    Ok(())
+}
+
+/// A draw with the depth test off wants no depths: what it overwrites has the greatest.
+#[test]
+fn a_draw_leaves_a_tile_without_depths(rt: HostRuntime) -> Result<(), Fail> {
+    let mut tile = Tile::blank(rt.alloc(), CORNER);
+    tile.make()?;
+    let list = [(LARGE, grey(3), 5), (CLOCKWISE, grey(4), 6)];
+    let canvas = drawn(rt.alloc(), tile, &list, &Pipeline::default())?;
+    assert!(rt; !canvas.tile.is_deep());
+    expect_pixel(&rt, &canvas.tile, (0, 0), 4, 65535);
+    expect_kept(&rt, &canvas.undo, 0, (0, 0), &[0, 3]);
+    expect_pixel(&rt, &canvas.tile, (1, 1), 3, 65535);
     Ok(())
 }
 
@@ -341,7 +375,7 @@ fn row_of_five(alloc: Global) -> Result<Tile, Fail> {
     };
     let mut tile = Tile::fresh(alloc, place)?;
     for x in [1, 3] {
-        if !tile.is_made() || !tile.place().holds(x, 0) {
+        if !tile.is_made() || !tile.is_deep() || !tile.place().holds(x, 0) {
             return Err(Fail::from("no such pixel"));
         }
         tile.set_depth(x, 0, 7);
@@ -409,7 +443,7 @@ fn expect_runs(
     };
     let mut tile = Tile::fresh(alloc, place)?;
     for x in 0..width {
-        assert!(rt; tile.is_made() && tile.place().holds(x, 0));
+        assert!(rt; tile.is_made() && tile.is_deep() && tile.place().holds(x, 0));
         tile.set_depth(x, 0, 6 + (x % 3) as u16);
     }
     let mut canvas = canvas_of(alloc, tile);

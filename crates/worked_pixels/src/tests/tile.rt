@@ -74,10 +74,10 @@ fn colour_pixel(tile: &mut Tile, at: (u32, u32), colour: Colour) -> Result<(), F
     Ok(())
 }
 
-/// Gives such a pixel a depth.
+/// Gives such a pixel a depth, of a tile that is deep.
 fn sink_pixel(tile: &mut Tile, at: (u32, u32), depth: u16) -> Result<(), Fail> {
     let (x, y) = at;
-    if !tile.is_made() || !tile.place().holds(x, y) {
+    if !tile.is_made() || !tile.is_deep() || !tile.place().holds(x, y) {
         return Err("a pixel of the tile".into());
     }
     tile.set_depth(x, y, depth);
@@ -86,7 +86,7 @@ fn sink_pixel(tile: &mut Tile, at: (u32, u32), depth: u16) -> Result<(), Fail> {
 
 /// Gives the last pixel of a row of such a tile a colour, and a depth if there is one, by what is lent of it.
 fn end_row(tile: &mut Tile, y: u32, colour: Colour, depth: Option<u16>) -> Result<(), Fail> {
-    if !tile.is_made() || !has_row(tile, y) {
+    if !tile.is_made() || !tile.is_deep() || !has_row(tile, y) {
         return Err("a row of the tile".into());
     }
     if let Some(last) = tile.row_mut(y).last_mut() {
@@ -150,7 +150,9 @@ fn a_blank_tile_is_alike_until_it_is_made(rt: HostRuntime) -> Result<(), Fail> {
     let mut tile = Tile::blank(rt.alloc(), SMALL);
     assert!(rt; !tile.is_made());
     expect_pixel(&rt, &tile, (36, 67), NOTHING, 65535)?;
+    assert!(rt; !tile.is_deep());
     tile.fill_colours(RED);
+    tile.deepen()?;
     tile.fill_depths(7);
     expect_row(&rt, &tile, 66, &[RED; 5])?;
     assert_eq!(rt; tile.flat_colour(), Some(RED));
@@ -164,6 +166,26 @@ fn a_blank_tile_is_alike_until_it_is_made(rt: HostRuntime) -> Result<(), Fail> {
     assert_eq!(rt; tile.flat_colour(), Some(RED));
     colour_pixel(&mut tile, (33, 65), NOTHING)?;
     expect_row(&rt, &tile, 65, &[RED, NOTHING, RED, RED, RED])
+}
+
+/// Before a tile is deep its depths are the greatest, and none other is written.
+#[test]
+fn a_tile_is_deep_when_depths_are_written(rt: HostRuntime) -> Result<(), Fail> {
+    let mut tile = Tile::blank(rt.alloc(), SMALL);
+    tile.make()?;
+    tile.fill_depths(65535);
+    assert!(rt; !tile.is_deep());
+    assert_eq!(rt; tile.depth_row(67), [65535; 5].as_slice());
+    assert_eq!(rt; tile.depth_rows(65, 2), [65535; 10].as_slice());
+    tile.deepen()?;
+    assert!(rt; tile.is_deep());
+    assert_eq!(rt; tile.flat_depth(), Some(65535));
+    sink_pixel(&mut tile, (33, 65), 7)?;
+    expect_pixel(&rt, &tile, (33, 65), NOTHING, 7)?;
+    expect_pixel(&rt, &tile, (34, 65), NOTHING, 65535)?;
+    tile.renew();
+    assert!(rt; !tile.is_deep());
+    expect_pixel(&rt, &tile, (33, 65), NOTHING, 65535)
 }
 
 #[test]

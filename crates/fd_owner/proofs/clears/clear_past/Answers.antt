@@ -15,6 +15,8 @@ returns-then-is_on-clause-drawn c = λ yes.
     let number = sym c.number_past-number.ensures in
     let is = was_drawn c.clear_alike.result (sym c.unwrap_or.ensures ∙ yes) in
     let painted = c.clear_alike.ensures.drawn is (state_at table c.args.position) in
+    let deep = c.clear_alike.ensures.deep is in
+    let depths = c.clear_alike.ensures.depths is in
     let alike = c.clear_alike.ensures.alike is in
     record {
       event = c.event.result.now;

@@ -6,7 +6,7 @@ use Rattle.fd_draw.proofs.canvas.Canvas.keep_rows.Goals as goal
 pub keep_place-requires-clause-known : goal.keep_place-requires-clause-known
 keep_place-requires-clause-known c =
     let depths = c.depth_rows-depths in
-    known_rows c.requires.rows c.args.self.now.filled depths.result.now c.flat_depth.result depths.ensures.long depths.ensures.rows c.flat_depth.ensures
+    known_rows c.requires.rows c.args.self.now.filled depths.result.now c.flat_depth.result depths.ensures.long depths.ensures.rows c.flat_depth.ensures.flat
 
 pub returns : goal.returns
 returns c =

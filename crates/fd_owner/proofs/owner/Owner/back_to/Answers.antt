@@ -1,7 +1,7 @@
 use Rattle.std.proofs.Common.{◌≡◌, ◌≤◌, ◌∙◌, sym, ap, length, take, drop, arith}
 use Rattle.fd_tile.specs.Tile.{TileImage}
 use Rattle.fd_undo.specs.Undo.{Undo}
-use Rattle.fd_undo.proofs.Backs.{all_restored-made}
+use Rattle.fd_undo.proofs.Backs.{all_restored-made, all_restored-deep}
 use Rattle.fd_owner.specs.History.{History}
 use Rattle.fd_owner.specs.Shown.{Shown}
 use Rattle.fd_owner.proofs.Pictures.{length-frames_seen, OpensFresh-kept}
@@ -26,8 +26,9 @@ invariant_of-self-2 c =
     let t' = c.undo_to.new.tile in
     let u = c.self.inside.undo in
     let u' = c.undo_to.new.self in
-    let made = ap (λ (v : TileImage). v.made) c.undo_to.ensures.tile ∙ all_restored-made (drop c.args.to u.frames) t in (
-      IsOwner-back t t' u u' c.args.to (few d) c.undo_to.ensures.tile (left d) made c.self.invariant.0,
+    let made = ap (λ (v : TileImage). v.made) c.undo_to.ensures.tile ∙ all_restored-made (drop c.args.to u.frames) t in
+    let deep = ap (λ (v : TileImage). v.deep) c.undo_to.ensures.tile ∙ all_restored-deep (drop c.args.to u.frames) t in (
+      IsOwner-back t t' u u' c.args.to (few d) c.undo_to.ensures.tile (left d) made deep c.self.invariant.0,
       OpensFresh-kept t t' u u'
           (ap (λ (h : History). h.opening) (history_of-back t t' u u' c.args.to (few d) c.undo_to.ensures.tile (left d)))
           (placed t t' u u' c.args.to (few d) c.undo_to.ensures.tile (left d)) (ap (λ (v : Undo). v.opens_fresh) c.undo_to.ensures.frames)

@@ -10,6 +10,7 @@ invariant_of-self c =
       placed = i.placed;
       counted = counted_filled t.place t.made t.colours.items _ c.args.colour i.counted c.fill_all.ensures;
       deep_counted = i.deep_counted;
+      greatest = i.greatest;
       one_colour = IsFlat-replicate t.place c.args.colour _ (shown_filled t.place t.made t.colours.items _ c.args.colour i.counted c.fill_all.ensures);
       one_depth = i.one_depth;
     }

@@ -1,10 +1,10 @@
-use Rattle.std.proofs.Common.{List, Option, Some, None, ◌≡◌, ◌*◌, length, replicate, ap, ◌∙◌}
+use Rattle.std.proofs.Common.{Bool, true, List, Option, Some, None, ◌≡◌, ◌*◌, length, replicate, ap, ◌∙◌}
 use Rattle.std.specs.Prelude.{IfSome, unwrap_or}
 use Rattle.std.proofs.lemmas.List.{length-replicate}
 use Rattle.fd_blend.specs.Channel.{fresh}
 use Rattle.fd_tile.specs.declared.place.Place.{Place}
-use Rattle.fd_tile.specs.Tile.{IsFlat, flat_over, rows_over}
-use Rattle.fd_tile.proofs.Cut.{rows_flat}
+use Rattle.fd_tile.specs.Tile.{IsFlat, flat_over, rows_shown}
+use Rattle.fd_tile.proofs.Cut.{shown_flat}
 use Rattle.fd_tile.proofs.Rows.{IsFlat-replicate}
 use Rattle.fd_tile.proofs.tile.Tile.make.Goals as goal
 
@@ -14,43 +14,45 @@ known : {X : Type 0} (p : Place) (rows : List (List X)) (flat : Option X) (other
 known p rows (Some value) other all = all
 known p rows None other all = tt
 
-module _ {X : Type 0} (p : Place) (items : List X) (flat : Option X) (other value : X) (is : value ≡ unwrap_or flat other)
-    (filled : items ≡ replicate (p.height * p.width) value) where
-  counted : length items ≡ p.height * p.width
-  counted = ap length filled ∙ length-replicate (p.height * p.width) value
+-- what is listed, or one value everywhere
+module _ {X : Type 0} (p : Place) (listed : Bool) (items : List X) (flat : Option X) (other value : X) (is : value ≡ unwrap_or flat other)
+    (filled : listed ≡ true → items ≡ replicate (p.height * p.width) value) where
+  counted : listed ≡ true → length items ≡ p.height * p.width
+  counted all = ap length (filled all) ∙ length-replicate (p.height * p.width) value
 
-  rows_are : rows_over p items ≡ flat_over p (unwrap_or flat other)
-  rows_are = rows_flat p items value filled ∙ ap (flat_over p) is
+  rows_are : rows_shown listed p items flat other ≡ flat_over p (unwrap_or flat other)
+  rows_are = shown_flat p listed items (unwrap_or flat other) (λ all. filled all ∙ ap (replicate (p.height * p.width)) is)
 
-  one : IfSome flat (λ v. IsFlat p (rows_over p items) v)
-  one = known p (rows_over p items) flat other (IsFlat-replicate p (unwrap_or flat other) (rows_over p items) rows_are)
+  one : IfSome flat (λ v. IsFlat p (rows_shown listed p items flat other) v)
+  one = known p (rows_shown listed p items flat other) flat other (IsFlat-replicate p (unwrap_or flat other) (rows_shown listed p items flat other) rows_are)
 
 pub invariant_of-self : goal.invariant_of-self
 invariant_of-self c =
     let t = c.self.inside in
     let p = t.place in
-    let colours = c.in_ok-colours.ensures.items_if_clones_equal (λ y same. same) in
-    let depths = c.in_ok-depths.ensures.items_if_clones_equal (λ y same. same) in
+    let colours = λ (_ : true ≡ true). c.in_ok-colours.ensures.items_if_clones_equal (λ y same. same) in
+    let depths = c.in_ok-depths.ensures.listed in
     record {
       placed = c.self.invariant.placed;
-      counted = λ _. counted p _ t.flat_colour fresh _ c.unwrap_or-colour.ensures colours;
-      deep_counted = λ _. counted p _ t.flat_depth 65535 _ c.unwrap_or-depth.ensures depths;
-      one_colour = one p _ t.flat_colour fresh _ c.unwrap_or-colour.ensures colours;
-      one_depth = one p _ t.flat_depth 65535 _ c.unwrap_or-depth.ensures depths;
+      counted = counted p true _ t.flat_colour fresh _ c.unwrap_or-colour.ensures colours;
+      deep_counted = counted p t.deep _ t.flat_depth 65535 _ c.unwrap_or-depth.ensures depths;
+      greatest = c.self.invariant.greatest;
+      one_colour = one p true _ t.flat_colour fresh _ c.unwrap_or-colour.ensures colours;
+      one_depth = one p t.deep _ t.flat_depth 65535 _ c.unwrap_or-depth.ensures depths;
     }
 
 pub returns : goal.returns
 returns c =
     let t = c.self.inside in
     let p = t.place in
-    let colours = c.in_ok-colours.ensures.items_if_clones_equal (λ y same. same) in
-    let depths = c.in_ok-depths.ensures.items_if_clones_equal (λ y same. same) in
+    let colours = λ (_ : true ≡ true). c.in_ok-colours.ensures.items_if_clones_equal (λ y same. same) in
+    let depths = c.in_ok-depths.ensures.listed in
     record {
       made = rw (
         ← c.self.view_is,
         c.if-self.false,
-        rows_are p _ t.flat_colour fresh _ c.unwrap_or-colour.ensures colours,
-        rows_are p _ t.flat_depth 65535 _ c.unwrap_or-depth.ensures depths,
+        rows_are p true _ t.flat_colour fresh _ c.unwrap_or-colour.ensures colours,
+        rows_are p t.deep _ t.flat_depth 65535 _ c.unwrap_or-depth.ensures depths,
       );
       same = tt;
       wanted = tt;

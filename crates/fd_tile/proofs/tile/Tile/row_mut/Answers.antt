@@ -11,6 +11,7 @@ invariant_of-self-lent c w =
       placed = i.placed;
       counted = λ _. vec_counted t.colours _ (i.counted r.made);
       deep_counted = i.deep_counted;
+      greatest = i.greatest;
       one_colour = tt;
       one_depth = i.one_depth;
     }

@@ -3,7 +3,7 @@ use Rattle.std.proofs.lemmas.Grind.{common_steps}
 use Rattle.std.proofs.Math.ListN.{drop_of_length-le}
 use Rattle.fd_undo.proofs.StackLemmas.{length-frames}
 use Rattle.fd_undo.specs.Block.{newest}
-use Rattle.fd_undo.proofs.Backs.{Goes, goes, all_restored-made, all_restored-place}
+use Rattle.fd_undo.proofs.Backs.{Goes, goes, all_restored-made, all_restored-deep, all_restored-place}
 use Rattle.fd_undo.proofs.stack.UndoStack.put_back_to.Goals as goal
 use Rattle.fd_undo.proofs.stack.UndoStack.put_back_to.Goals.{After-is_stored}
 
@@ -24,6 +24,12 @@ put_frame-requires-clause-alike c =
     let t = top (goal.at-put_frame-requires-clause-alike c).After-is_stored c.loop-self-test.true in
     rw (c.newest_slices.ensures.there, t.own, c.loop-self.invariant.tile, all_restored-place, all_restored-made)
     (λ not. c.requires.alike not (newest c.is_stored.new.self.last.frames).number t.left.least t.within)
+
+pub put_frame-requires-clause-depths : goal.put_frame-requires-clause-depths
+put_frame-requires-clause-depths c =
+    let t = top (goal.at-put_frame-requires-clause-depths c).After-is_stored c.loop-self-test.true in
+    rw (c.newest_slices.ensures.there, t.own, c.loop-self.invariant.tile, all_restored-deep)
+    (c.requires.depths (newest c.is_stored.new.self.last.frames).number t.left.least t.within)
 
 pub loop-self-init : goal.loop-self-init
 loop-self-init c = grind (arith, common_steps, length-frames, drop_of_length-le)

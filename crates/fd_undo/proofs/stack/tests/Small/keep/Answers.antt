@@ -30,6 +30,7 @@ invariant_of-self c =
     (grind (arith, was.placed, length-zip_equal)) in
     record {
       made = was.made;
+      deep = was.deep;
       placed = was.placed;
       inside = rw (ap (λ (u : Undo). u.frames) c.keep.ensures) (more-inside was.tile.place was.undo.frames _ was.inside row);
     }
