@@ -64,7 +64,7 @@ fn label(reader: &mut Reader<'_>, scope: Scope) -> Result<Option<Label>, Stop>
 {
     let found = text(reader, scope.depth)?;
     match found {
-        Some(text) => Ok(Label::new(String::from_str(scope.alloc, text)?).ok()),
+        Some(text) => Ok(Label::of(text).ok()),
         None => Ok(None),
     }
 }

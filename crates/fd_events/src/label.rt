@@ -2,6 +2,7 @@ ghost use Rattle.std.specs.Prelude.{◌≡◌, ◌≤◌, length, string_bytes};
 ghost use Rattle.std.specs.List.{list_any};
 ghost use Rattle.fd_events.specs.Label.{is_control};
 
+use arrayvec::ArrayString;
 use std::marker::Model;
 use thiserror::Error;
 
@@ -22,18 +23,19 @@ pub enum LabelFault {
 /// A marker's name.
 #[derive(Debug, Drop)]
 pub struct Label {
-    text: String,
+    // in the event itself, which has room for the largest kind, so that a name takes no memory of its own
+    text: ArrayString<MAX_LABEL_LEN>,
 }
 
 impl Model for Label {
-    ghost use Rattle.std.specs.Prelude.{List, ℕ, string_bytes, ◌≡◌, Ok};
+    ghost use Rattle.std.specs.Prelude.{List, ℕ, ◌≡◌, Ok};
     ghost use Rattle.fd_events.specs.Label.{labelled};
 
     ghost Value = { List ℕ };
 
-    ghost view = { λ l. string_bytes l.text };
+    ghost view = { λ l. l.text.bytes };
 
-    ghost invariant = { λ l. labelled (string_bytes l.text) ≡ Ok (string_bytes l.text) };
+    ghost invariant = { λ l. labelled l.text.bytes ≡ Ok l.text.bytes };
 }
 
 impl Label {
@@ -44,13 +46,20 @@ impl Label {
     pub fn new(text: String) -> Result<Label, LabelFault>
         ensures { result ≡ labelled (string_bytes text) }
     {
-        if text.len() > MAX_LABEL_LEN {
+        Label::of(&text)
+    }
+
+    /// A name of a copy of this text, which takes no memory.
+    pub fn of(text: &str) -> Result<Label, LabelFault>
+        ensures { result ≡ labelled text.now }
+    {
+        let Ok(copy) = ArrayString::from(text) else {
             return Err(LabelFault::TooLong);
-        }
+        };
         if has_control(text.as_bytes()) {
             return Err(LabelFault::Control);
         }
-        Ok(Label { text })
+        Ok(Label { text: copy })
     }
 
     /// The name's text.
