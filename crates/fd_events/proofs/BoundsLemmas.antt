@@ -3,7 +3,7 @@ use Rattle.std.proofs.Common.{◌≡◌, Bool, ℕ, zero, suc, ◌+◌, ◌-◌,
 use Rattle.std.proofs.Common.{◌++◌, length, take, drop, Option, Some, None, slice_get, option_map, arith, refl, sym, ap, ◌∙◌}
 use Rattle.std.specs.Prelude.{◌&&◌}
 use Rattle.std.proofs.lemmas.Bool.{both_ways, false_from_ne_true, or_left, or_right}
-use Rattle.std.proofs.lemmas.Option.{slice_get_within}
+use Rattle.std.proofs.lemmas.Option.{slice_get_cases, slice_get_within}
 use Rattle.std.proofs.lemmas.Bool.Decides.{nat_tests}
 use Rattle.fd_cover.specs.declared.bounds.Bounds.{Bounds}
 use Rattle.fd_cover.specs.declared.shading.Interp.{Interp}
@@ -13,7 +13,7 @@ use Rattle.fd_cover.specs.Covers.{covers}
 use Rattle.fd_cover.proofs.BoundsLemmas.{bounds_of-holds}
 use Rattle.fd_events.specs.declared.pipeline.Pipeline.{Pipeline}
 use Rattle.fd_events.specs.Limits.{group_size}
-use Rattle.fd_events.specs.Bounds.{HoldsTriangles, HoldsGroup, IsTriangleBox, triangles_between}
+use Rattle.fd_events.specs.Bounds.{AreBoxesOf, HoldsTriangles, HoldsGroup, IsTriangleBox, triangles_between}
 use Rattle.fd_events.specs.Bounds.{joined_with, bounds_of_triangles, may_colour, IsRound, CoverNone}
 use Rattle.fd_events.specs.Draw.{DrawList, Triangle, triangles_of}
 use Rattle.fd_cover.specs.Verdict.{verdict_at}
@@ -77,6 +77,17 @@ IsRound-further ts first k corners before box from next so_far is =
     let joined = joined_with-next (drop first ts) (k - first) corners (record { left = 0; top = 0; right = 0; bottom = 0 }) (rw at next) in
     let value : box ≡ bounds_of_triangles (triangles_between first (k + 1) ts) = is ∙ rw (so_far, more) (sym joined) in
     record { value = value; covered = rw value (bounds_of_triangles-holds (triangles_between first (k + 1) ts)) }
+
+-- the same by the boxes of all triangles
+pub IsRound-joined : (ts : List Triangle) (boxes : List Bounds) (first k : ℕ) (before own box : Bounds) → AreBoxesOf boxes ts → first ≤ k
+    → slice_get boxes k ≡ Some own → IsRound before (triangles_between first k ts) → box ≡ joined_box before own
+    → IsRound box (triangles_between first (k + 1) ts)
+IsRound-joined ts boxes first k before own box are from at so_far is = elim (slice_get_cases ts k).1 [
+  | inl found ↦ IsRound-further ts first k found.0.corners before box from
+      (ap (option_map (λ (u : Triangle). u.corners)) found.2) so_far.value
+      (is ∙ ap (joined_box before) (are.each k own at found.0 found.2).0)
+  | inr past ↦ absurd (omega (arith, slice_get_within boxes k own at, are.size, past.0))
+]
 
 -- the box round a group holds what its triangles cover
 pub HoldsGroup-triangles_between : (ts : List Triangle) (group first last : ℕ) (box : Bounds) → first ≡ group_size * group

@@ -63,6 +63,11 @@ IsTriangleBox box number ts = (t : Triangle) → slice_get ts number ≡ Some t 
 abbrev pub AreTriangleBoxes : List Bounds → List Triangle → Type 0
 AreTriangleBoxes boxes ts = (number : ℕ) (box : Bounds) → slice_get boxes number ≡ Some box → IsTriangleBox box number ts
 
+-- the boxes are those of all triangles, in their order
+pub record AreBoxesOf (boxes : List Bounds) (ts : List Triangle) : Type 0 where
+  pub each : AreTriangleBoxes boxes ts
+  pub size : length boxes ≡ length ts
+
 -- none of the triangles from number first up to number last covers a pixel of the window
 abbrev pub CoverNone : Bounds → List Triangle → ℕ → ℕ → Type 0
 CoverNone window ts first last = (i : ℕ) (t : Triangle) → first ≤ i → i < last → slice_get ts i ≡ Some t → (x y : ℕ) → IsTrue (is_within window x y)

@@ -3,6 +3,7 @@ ghost use Rattle.fd_events.specs.Draw.{triangles_of};
 ghost use Rattle.fd_events.specs.Finder.{Finds};
 ghost use Rattle.fd_memory.specs.Wanting.{Wanted};
 
+use crate::boxes::{groups_of, round_all};
 use crate::cells::{Cells, target_box};
 use crate::list::TriangleList;
 use fd_cover::Bounds;
@@ -41,8 +42,9 @@ impl Finder {
         if count <= FEW_TRIANGLES {
             return Ok(None);
         }
-        let bounds = list.all_bounds();
-        let groups = list.groups(alloc)?;
+        let boxes = list.boxes(alloc)?;
+        let bounds = round_all(&boxes);
+        let groups = groups_of(&boxes, alloc)?;
         if count as usize / MOST_OF_A_VERTEX > list.vertex_count() {
             return Ok(Some(Finder {
                 bounds,
@@ -51,7 +53,6 @@ impl Finder {
                 cells: None,
             }));
         }
-        let boxes = list.boxes(alloc)?;
         let reached = bounds.meet(target_box(width, height));
         let cells = Cells::over(reached, list, &boxes, alloc)?;
         Ok(Some(Finder {

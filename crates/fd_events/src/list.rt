@@ -6,7 +6,7 @@ ghost use Rattle.fd_memory.specs.Wanting.{Wanted};
 use crate::draw::{DrawFault, GROUP_LEN, MAX_INDICES, MAX_VERTICES, Vertex};
 use crate::picture::Picture;
 use fd_blend::Colour;
-use fd_cover::{Bounds, Cull, Interp, Raster, Tri};
+use fd_cover::{Bounds, Interp, Tri};
 use fd_snap::snap;
 use std::alloc::{AllocError, Global};
 use std::marker::Model;
@@ -36,8 +36,6 @@ impl Model for TriangleList {
 
 impl TriangleList {
     ghost use Rattle.std.specs.Prelude.{IfOk};
-    ghost use Rattle.std.specs.Prelude.{IsTrue};
-    ghost use Rattle.fd_events.specs.Culled.{AreCulled};
     ghost use Rattle.fd_events.specs.Bounds.{IsRound, IsRoundGroup, AreRoundGroups, AreTriangleBoxes, triangles_between};
     ghost use Rattle.fd_events.specs.Draw.{made_with, listed, triangle_of_vertices, triangles_of};
     ghost use Rattle.fd_events.specs.Limits.{group_size, most_triangles, most_vertices};
@@ -129,23 +127,6 @@ impl TriangleList {
         }
     }
 
-    /// Whether every triangle is culled.
-    pub(crate) fn is_culled(&self, cull: Cull, front_ccw: bool) -> bool
-        ensures { IsTrue result → AreCulled cull front_ccw (triangles_of self.now) }
-    {
-        let raster = Raster {
-            cull,
-            front_ccw,
-            scissor: false,
-        };
-        for triangle in 0..self.len() {
-            if !raster.culls(&self.tri(triangle)) {
-                return false;
-            }
-        }
-        true
-    }
-
     /// The colours of a triangle's corners, in the order of `tri`.
     pub(crate) fn colours(&self, triangle: u32) -> [Colour; 3]
         requires { triangle < length (triangles_of self.now) }
@@ -198,36 +179,6 @@ impl TriangleList {
         ensures { IsRound result (triangles_of self.now) }
     {
         self.bounds(0, self.len())
-    }
-
-    /// The box round a group of triangles, which holds every pixel that one of them covers.
-    pub(crate) fn group_bounds(&self, group: u32) -> Bounds
-        requires { group_size * group < length (triangles_of self.now) }
-        ensures { IsRoundGroup result group (triangles_of self.now) }
-    {
-        let len = self.len();
-        let first = GROUP_LEN * group;
-        self.bounds(first, (first + GROUP_LEN).min(len))
-    }
-
-    /// The number of groups of triangles.
-    fn group_count(&self) -> u32
-        ensures { result ≡ (length (triangles_of self.now) + (group_size - 1)) / group_size }
-    {
-        self.len().div_ceil(GROUP_LEN)
-    }
-
-    /// The boxes of all groups, in their order.
-    pub(crate) fn groups(&self, alloc: Global) -> Result<Vec<Bounds>, AllocError>
-        ensures groups { IfOk result (λ groups. AreRoundGroups groups.items (triangles_of self.now)) }
-        ensures wanted { OnErr result Wanted }
-    {
-        let count = self.group_count();
-        let mut groups = fd_memory::room(alloc, count as usize)?;
-        for group in 0..count {
-            fd_memory::push(&mut groups, self.group_bounds(group))?;
-        }
-        Ok(groups)
     }
 
     /// The boxes of all triangles, in their order.
