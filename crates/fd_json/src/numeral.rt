@@ -23,6 +23,7 @@ pub fn number(text: &str) -> Option<Number>
 }
 
 /// The whole number of a few digits, perhaps behind a minus, and nothing else. There is no `-0`.
+#[inline(always)]
 pub(crate) fn short_integer(text: &str) -> Option<i64>
     ensures value { IfSome result (λ z. number_of text.now ≡ Some (of_integer z)) }
     ensures whole { IfSome result (λ z. as_i64 (of_integer z) ≡ Some z) }
@@ -53,6 +54,7 @@ pub(crate) fn any_number(text: &str) -> Option<Number>
 }
 
 /// The value of a few digits.
+#[inline(always)]
 fn digits(bytes: &[u8]) -> Option<u64>
     ensures value { IfSome result (λ n. IsNumeral 10 bytes.now × (n ≡ digits_value 10 bytes.now)) }
     ensures small { IfSome result (λ n. n < 10 ^ 18) }

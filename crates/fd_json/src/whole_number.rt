@@ -29,12 +29,21 @@ pub fn integer(reader: &mut Reader<'_>, depth: usize) -> Result<Option<i64>, Not
 }
 
 /// The whole number of 64 bits that a token writes, if it is one.
+#[inline(always)]
 fn whole(text: &str) -> Result<Option<i64>, NotJson>
     ensures { MatchResult result (λ n. (m : Num) × (number_of text.now ≡ Some m) × (n ≡ as_i64 m)) (λ _. number_of text.now ≡ None) }
 {
-    if let Some(whole) = short_integer(text) {
-        return Ok(Some(whole));
+    match short_integer(text) {
+        Some(whole) => Ok(Some(whole)),
+        None => whole_of_any(text),
     }
+}
+
+/// The same of any text of a token.
+#[cold]
+fn whole_of_any(text: &str) -> Result<Option<i64>, NotJson>
+    ensures { MatchResult result (λ n. (m : Num) × (number_of text.now ≡ Some m) × (n ≡ as_i64 m)) (λ _. number_of text.now ≡ None) }
+{
     let number = any_number(text).ok_or(NotJson)?;
     Ok(number.as_i64())
 }
