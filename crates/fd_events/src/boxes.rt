@@ -1,4 +1,4 @@
-ghost use Rattle.std.specs.Prelude.{◌≡◌, ◌*◌, ◌<◌, ◌≤◌, List, length, IfOk, OnErr};
+ghost use Rattle.std.specs.Prelude.{◌*◌, ◌<◌, ◌≤◌, List, length, IfOk, OnErr};
 ghost use Rattle.fd_events.specs.Bounds.{AreBoxesOf, IsRound, IsRoundGroup, AreRoundGroups, triangles_between};
 ghost use Rattle.fd_events.specs.Draw.{Triangle};
 ghost use Rattle.fd_events.specs.Limits.{group_size};

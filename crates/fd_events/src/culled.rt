@@ -1,8 +1,8 @@
-ghost use Rattle.std.specs.Prelude.{◌≡◌, Bool, IsTrue, false};
+ghost use Rattle.std.specs.Prelude.{◌≡◌, Bool, IsTrue, List, false};
 ghost use Rattle.fd_cover.specs.Verdict.{is_culled};
 ghost use Rattle.fd_cover.specs.declared.verdict.Cull.{Cull as Culling};
 ghost use Rattle.fd_cover.specs.declared.verdict.Cull.TheVariants.{Front};
-ghost use Rattle.fd_events.specs.Draw.{triangles_of};
+ghost use Rattle.fd_events.specs.Draw.{Triangle, triangles_of};
 ghost use Rattle.fd_events.specs.Culled.{TellsCulled, says_culled};
 
 use crate::list::TriangleList;
@@ -18,6 +18,18 @@ pub(crate) struct Culled {
 }
 
 impl Culled {
+    /// Where none was found.
+    pub(crate) fn unknown() -> Culled
+        ensures { (ts : List Triangle) → TellsCulled result ts }
+    {
+        Culled {
+            front: false,
+            front_ccw: false,
+            back: false,
+            back_ccw: false,
+        }
+    }
+
     /// Of these triangles.
     pub(crate) fn of(list: &TriangleList) -> Culled
         ensures { TellsCulled result (triangles_of list.now) }

@@ -2,7 +2,6 @@ ghost use Rattle.std.specs.Prelude.{◌≡◌, ◌+◌, ◌-◌, ◌*◌, ◌/�
 ghost use Rattle.fd_cover.specs.Bounds.{is_within};
 ghost use Rattle.fd_memory.specs.Wanting.{Wanted};
 
-use crate::culled::Culled;
 use crate::finder::Finder;
 use crate::list::TriangleList;
 use crate::picture::Picture;
@@ -49,8 +48,6 @@ pub enum DrawFault {
 #[derive(Debug, Drop)]
 pub struct Draw {
     list: TriangleList,
-    // in which raster states every triangle is culled, once a table was started with the draw
-    culled: Option<Culled>,
     // behind a pointer, since an event has room for the largest kind, and most are no draws
     finder: Option<Box<Finder>>,
 }
@@ -58,16 +55,13 @@ pub struct Draw {
 impl Model for Draw {
     ghost use Rattle.std.specs.Prelude.{IfSome};
     ghost use Rattle.fd_events.specs.Draw.{DrawList, triangles_of};
-    ghost use Rattle.fd_events.specs.Culled.{TellsCulled};
     ghost use Rattle.fd_events.specs.Finder.{Finds};
 
     ghost Value = { DrawList };
 
     ghost view = { λ d. d.list };
 
-    ghost invariant = { λ d.
-        IfSome d.culled (λ culled. TellsCulled culled (triangles_of d.list))
-        × IfSome d.finder (λ finder. Finds finder.value (triangles_of d.list)) };
+    ghost invariant = { λ d. IfSome d.finder (λ finder. Finds finder.value (triangles_of d.list)) };
 }
 
 impl Draw {
@@ -87,11 +81,7 @@ impl Draw {
         ensures { result ≡ made vertices.items (option_map (λ v. v.items) indices) interp }
     {
         let list = TriangleList::new(vertices, indices, interp, None)?;
-        Ok(Draw {
-            list,
-            culled: None,
-            finder: None,
-        })
+        Ok(Draw { list, finder: None })
     }
 
     /// A draw of these vertices and indices whose colours come from a picture, and not from those of the vertices. All are dropped on a refusal.
@@ -103,11 +93,7 @@ impl Draw {
         ensures { result ≡ made_with (Some picture.value) vertices.items (option_map (λ v. v.items) indices) Flat }
     {
         let list = TriangleList::new(vertices, indices, Interp::Flat, Some(picture))?;
-        Ok(Draw {
-            list,
-            culled: None,
-            finder: None,
-        })
+        Ok(Draw { list, finder: None })
     }
 
     /// The number of triangles.
@@ -171,10 +157,7 @@ impl Draw {
     pub fn is_culled(&self, raster: &Raster) -> bool
         ensures { IsTrue result → AreCulled raster.now.cull raster.now.front_ccw (triangles_of self.now) }
     {
-        match self.culled {
-            Some(culled) => culled.by(raster),
-            None => false,
-        }
+        self.list.is_culled(raster)
     }
 
     /// The box round the triangles, which holds every pixel that one of them covers.
@@ -308,7 +291,7 @@ impl Draw {
         if let Some(finder) = Finder::of(&self.list, width, height, alloc)? {
             self.finder = Some(fd_memory::boxed(alloc, finder)?);
         }
-        self.culled = Some(Culled::of(&self.list));
+        self.list.find_culled();
         Ok(())
     }
 }

@@ -1,12 +1,13 @@
-ghost use Rattle.std.specs.Prelude.{◌≡◌, ◌+◌, ◌-◌, ◌*◌, ◌/◌, ◌≤◌, ◌<◌, length, Some, option_map, slice_get, nat_lt, OnErr};
+ghost use Rattle.std.specs.Prelude.{◌≡◌, ◌≤◌, ◌<◌, length, Some, option_map, slice_get, nat_lt, OnErr};
 ghost use Rattle.std.specs.List.{list_all};
-ghost use Rattle.fd_events.specs.Indices.{has_too_many, are_in_range};
+ghost use Rattle.fd_events.specs.Indices.{has_too_many, are_in_range, if_indexed};
 ghost use Rattle.fd_memory.specs.Wanting.{Wanted};
 
-use crate::draw::{DrawFault, GROUP_LEN, MAX_INDICES, MAX_VERTICES, Vertex};
+use crate::culled::Culled;
+use crate::draw::{DrawFault, MAX_INDICES, MAX_VERTICES, Vertex};
 use crate::picture::Picture;
 use fd_blend::Colour;
-use fd_cover::{Bounds, Interp, Tri};
+use fd_cover::{Bounds, Interp, Raster, Tri};
 use fd_snap::snap;
 use std::alloc::{AllocError, Global};
 use std::marker::Model;
@@ -15,30 +16,40 @@ use std::marker::Model;
 #[derive(Debug, Drop)]
 pub(crate) struct TriangleList {
     vertices: Vec<Vertex>,
-    indices: Option<Vec<u32>>,
-    interp: Interp,
+    // none where the vertices themselves are the corners
+    indices: Vec<u32>,
     // behind a pointer, since an event has room for the largest kind
     picture: Option<Box<Picture>>,
+    // what takes a byte or a few stands together, as an event is as large as a draw
+    is_indexed: bool,
+    interp: Interp,
+    // in which raster states every triangle is culled, once a table was started with the draw
+    culled: Culled,
 }
 
 impl Model for TriangleList {
     ghost use Rattle.std.specs.Prelude.{◌≡◌, Ok, option_map};
-    ghost use Rattle.fd_events.specs.Draw.{DrawList, draw_of, made, with_picture};
+    ghost use Rattle.fd_events.specs.Culled.{TellsCulled};
+    ghost use Rattle.fd_events.specs.Draw.{DrawList, draw_of, made, triangles_of, with_picture};
+    ghost use Rattle.fd_events.specs.Indices.{if_indexed};
 
     ghost Value = { DrawList };
 
-    ghost view = { λ d. with_picture (option_map (λ p. p.value) d.picture) (draw_of d.vertices.items (option_map (λ v. v.items) d.indices) d.interp) };
+    ghost view = { λ d. with_picture (option_map (λ p. p.value) d.picture) (draw_of d.vertices.items (if_indexed d.is_indexed d.indices.items) d.interp) };
 
     ghost invariant = { λ d.
-        made d.vertices.items (option_map (λ v. v.items) d.indices) d.interp
-        ≡ Ok (draw_of d.vertices.items (option_map (λ v. v.items) d.indices) d.interp) };
+        (made d.vertices.items (if_indexed d.is_indexed d.indices.items) d.interp
+        ≡ Ok (draw_of d.vertices.items (if_indexed d.is_indexed d.indices.items) d.interp))
+        × TellsCulled d.culled (triangles_of
+        (with_picture (option_map (λ p. p.value) d.picture) (draw_of d.vertices.items (if_indexed d.is_indexed d.indices.items) d.interp))) };
 }
 
 impl TriangleList {
-    ghost use Rattle.std.specs.Prelude.{IfOk};
-    ghost use Rattle.fd_events.specs.Bounds.{IsRound, IsRoundGroup, AreRoundGroups, AreTriangleBoxes, triangles_between};
+    ghost use Rattle.std.specs.Prelude.{IfOk, IsTrue};
+    ghost use Rattle.fd_events.specs.Culled.{AreCulled};
+    ghost use Rattle.fd_events.specs.Bounds.{IsRound, AreTriangleBoxes, triangles_between};
     ghost use Rattle.fd_events.specs.Draw.{made_with, listed, triangle_of_vertices, triangles_of};
-    ghost use Rattle.fd_events.specs.Limits.{group_size, most_triangles, most_vertices};
+    ghost use Rattle.fd_events.specs.Limits.{most_triangles, most_vertices};
 
     /// The triangles of these vertices and indices, which are dropped on a refusal.
     pub(crate) fn new(
@@ -58,11 +69,14 @@ impl TriangleList {
         if !are_in_range(&indices, vertices.len()) {
             return Err(DrawFault::IndexRange);
         }
+        let (is_indexed, indices) = parted(indices, *vertices.allocator());
         Ok(TriangleList {
             vertices,
             indices,
-            interp,
             picture,
+            is_indexed,
+            interp,
+            culled: Culled::unknown(),
         })
     }
 
@@ -71,9 +85,10 @@ impl TriangleList {
         ensures value { result ≡ length (listed self.now) }
         ensures max { result ≤ most_vertices }
     {
-        match &self.indices {
-            None => self.vertices.len(),
-            Some(indices) => indices.len(),
+        if self.is_indexed {
+            self.indices.len()
+        } else {
+            self.vertices.len()
         }
     }
 
@@ -87,9 +102,10 @@ impl TriangleList {
         requires { corner < length (listed self.now) }
         ensures { slice_get (listed self.now) corner ≡ Some result }
     {
-        match &self.indices {
-            None => self.vertices[corner],
-            Some(indices) => self.vertices[indices[corner] as usize],
+        if self.is_indexed {
+            self.vertices[self.indices[corner] as usize]
+        } else {
+            self.vertices[corner]
         }
     }
 
@@ -125,6 +141,20 @@ impl TriangleList {
             b: snap(b.pos),
             c: snap(c.pos),
         }
+    }
+
+    /// Finds the raster states in which every triangle is culled.
+    pub(crate) fn find_culled(&mut self)
+        ensures { self.new ≡ self.old }
+    {
+        self.culled = Culled::of(self);
+    }
+
+    /// Whether it was found that a raster state culls every triangle.
+    pub(crate) fn is_culled(&self, raster: &Raster) -> bool
+        ensures { IsTrue result → AreCulled raster.now.cull raster.now.front_ccw (triangles_of self.now) }
+    {
+        self.culled.by(raster)
     }
 
     /// The colours of a triangle's corners, in the order of `tri`.
@@ -193,6 +223,16 @@ impl TriangleList {
             fd_memory::push(&mut boxes, Bounds::of(&self.tri(triangle)))?;
         }
         Ok(boxes)
+    }
+}
+
+/// Whether a draw has indices, and which.
+fn parted(indices: Option<Vec<u32>>, alloc: Global) -> (bool, Vec<u32>)
+    ensures { if_indexed result.0 result.1.items ≡ option_map (λ v. v.items) indices }
+{
+    match indices {
+        Some(indices) => (true, indices),
+        None => (false, Vec::new(alloc)),
     }
 }
 

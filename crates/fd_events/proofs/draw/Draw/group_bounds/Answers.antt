@@ -10,7 +10,7 @@ use Rattle.fd_events.proofs.draw.Draw.group_bounds.Goals as goal
 -- the box that was found is the one round the group
 round_group : (c : goal.After-result-1) → IsRoundGroup c.in-Some-get.bounds.now c.args.group (triangles_of c.args.self.now)
 round_group c =
-    let kept : Finds c.in-Some.finder.value (triangles_of c.self.inside.list) = rw c.in-Some.is at c.self.invariant.1 in
+    let kept : Finds c.in-Some.finder.value (triangles_of c.self.inside.list) = rw c.in-Some.is at c.self.invariant in
     let finds : Finds c.deref.result.now (triangles_of c.self.inside.list) = subst (λ (finder : Finder). Finds finder (triangles_of c.self.inside.list))
     (sym c.deref.ensures) kept in
     let lookup = c.in-Some-get.ensures.lookup in

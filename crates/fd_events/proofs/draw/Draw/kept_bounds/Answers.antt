@@ -9,7 +9,7 @@ use Rattle.fd_events.proofs.draw.Draw.kept_bounds.Goals as goal
 
 pub returns-in-Some-get : goal.returns-in-Some-get
 returns-in-Some-get c =
-    let kept : Finds c.in-Some.finder.value (triangles_of c.self.inside.list) = rw c.in-Some.is at c.self.invariant.1 in
+    let kept : Finds c.in-Some.finder.value (triangles_of c.self.inside.list) = rw c.in-Some.is at c.self.invariant in
     let finds : Finds c.deref.result.now (triangles_of c.self.inside.list) = subst (λ (finder : Finder). Finds finder (triangles_of c.self.inside.list))
     (sym c.deref.ensures) kept in
     let lookup = c.in-Some-get.ensures.lookup in

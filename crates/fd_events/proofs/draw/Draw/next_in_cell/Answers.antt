@@ -9,7 +9,7 @@ use Rattle.fd_events.proofs.draw.Draw.next_in_cell.Goals as goal
 
 pub returns-in-Some-cells-clause-missed : goal.returns-in-Some-cells-clause-missed
 returns-in-Some-cells-clause-missed c = λ i t from to at x y within.
-    let kept : Finds c.in-Some.finder.value (triangles_of c.self.inside.list) = rw c.in-Some.is at c.self.invariant.1 in
+    let kept : Finds c.in-Some.finder.value (triangles_of c.self.inside.list) = rw c.in-Some.is at c.self.invariant in
     let shown : Finds c.in-Some.finder.value (triangles_of c.args.self.now) = subst (λ (d : DrawList). Finds c.in-Some.finder.value (triangles_of d))
     c.self.view_is kept in
     let finds : Finds c.deref.result.now (triangles_of c.args.self.now) = subst (λ (finder : Finder). Finds finder (triangles_of c.args.self.now))
