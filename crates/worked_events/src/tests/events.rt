@@ -617,9 +617,12 @@ fn labels_and_their_faults(rt: HostRuntime) -> Result<(), Fail> {
     ] {
         let label = Label::new(String::from_str(rt.alloc(), text)?);
         assert_eq!(rt; label.err(), fault, "{text}");
+        assert_eq!(rt; Label::of(text).err(), fault, "{text}");
     }
     let label = Label::new(String::from_str(rt.alloc(), "a name")?)?;
     assert_eq!(rt; label.as_str(), "a name");
+    let longest = "the longest name of all, to its last byte, which is number 64: .";
+    assert_eq!(rt; Label::of(longest)?.as_str(), longest);
     Ok(())
 }
 
