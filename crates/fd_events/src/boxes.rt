@@ -11,13 +11,6 @@ use std::alloc::{AllocError, Global};
 /// How many triangles a group has, as a length.
 const GROUP_SIZE: usize = GROUP_LEN as usize;
 
-/// The box round all triangles whose boxes these are.
-pub(crate) fn round_all(boxes: &[Bounds]) -> Bounds
-    ensures { (ts : List Triangle) → AreBoxesOf boxes.now ts → IsRound result ts }
-{
-    round(boxes, 0, boxes.len())
-}
-
 /// The box round each group of the triangles whose boxes these are, in their order.
 pub(crate) fn groups_of(boxes: &[Bounds], alloc: Global) -> Result<Vec<Bounds>, AllocError>
     ensures groups { IfOk result (λ groups. (ts : List Triangle) → AreBoxesOf boxes.now ts → AreRoundGroups groups.items ts) }
@@ -42,7 +35,7 @@ fn round_group(boxes: &[Bounds], group: usize) -> Bounds
 }
 
 /// The box round the triangles from number `first` up to number `last`, of those whose boxes these are.
-fn round(boxes: &[Bounds], first: usize, last: usize) -> Bounds
+pub(crate) fn round(boxes: &[Bounds], first: usize, last: usize) -> Bounds
     requires order { first ≤ last }
     requires last { last ≤ length boxes.now }
     ensures { (ts : List Triangle) → AreBoxesOf boxes.now ts → IsRound result (triangles_between first last ts) }

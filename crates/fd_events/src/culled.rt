@@ -18,6 +18,14 @@ pub(crate) struct Culled {
 }
 
 impl Culled {
+    /// Of no triangle, which every state that culls any culls.
+    const ALL: Culled = Culled {
+        front: true,
+        front_ccw: true,
+        back: true,
+        back_ccw: true,
+    };
+
     /// Where none was found.
     pub(crate) fn unknown() -> Culled
         ensures { (ts : List Triangle) → TellsCulled result ts }
@@ -34,7 +42,7 @@ impl Culled {
     pub(crate) fn of(list: &TriangleList) -> Culled
         ensures { TellsCulled result (triangles_of list.now) }
     {
-        let mut culled = Culled::all();
+        let mut culled = Culled::ALL;
         for triangle in 0..list.len() {
             culled = culled.with(&list.tri(triangle));
             if culled.is_none() {
@@ -42,16 +50,6 @@ impl Culled {
             }
         }
         culled
-    }
-
-    /// Of no triangle, which every state that culls any culls.
-    fn all() -> Culled {
-        Culled {
-            front: true,
-            front_ccw: true,
-            back: true,
-            back_ccw: true,
-        }
     }
 
     /// Of one triangle more.

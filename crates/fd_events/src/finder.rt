@@ -3,7 +3,7 @@ ghost use Rattle.fd_events.specs.Draw.{triangles_of};
 ghost use Rattle.fd_events.specs.Finder.{Finds};
 ghost use Rattle.fd_memory.specs.Wanting.{Wanted};
 
-use crate::boxes::{groups_of, round_all};
+use crate::boxes::{groups_of, round};
 use crate::cells::{Cells, target_box};
 use crate::list::TriangleList;
 use fd_cover::Bounds;
@@ -43,7 +43,7 @@ impl Finder {
             return Ok(None);
         }
         let boxes = list.boxes(alloc)?;
-        let bounds = round_all(&boxes);
+        let bounds = round(&boxes, 0, boxes.len());
         let groups = groups_of(&boxes, alloc)?;
         if count as usize / MOST_OF_A_VERTEX > list.vertex_count() {
             return Ok(Some(Finder {
