@@ -206,16 +206,21 @@ impl Store {
         }
     }
 
-    /// Whether a frame from this number on is stored. Then the newest one of the last block is.
-    pub(crate) fn is_stored(&mut self, alloc: Global, from: usize) -> bool
+    /// Whether a frame from this number on is stored. Then the newest one of the last block is. Where none is stored at all the memory goes back.
+    #[tactic(auto, using(crate::proofs::StackLemmas::stack_is_stored_steps))]
+    pub(crate) fn is_stored(&mut self, from: usize) -> bool
         ensures same { all_stored self.new.full self.new.last ≡ all_stored self.old.full self.old.last }
         ensures yes { result ≡ true → (0 < length self.new.last.frames) × (from ≤ (newest self.new.last.frames).number) }
         ensures no { result ≡ false → (count : ℕ) → Rise 0 (all_stored self.new.full self.new.last) count
             → Rise 0 (all_stored self.new.full self.new.last) from }
     {
         if let Some(body) = &mut self.body {
-            return body.is_stored(alloc, from);
+            body.refill();
+            if !body.last.is_empty() {
+                return body.last.newest_number() >= from;
+            }
         }
+        self.body = None;
         false
     }
 
@@ -258,7 +263,11 @@ impl Store {
     {
         if let Some(body) = &mut self.body {
             body.drop_all();
+            if body.last.room() > 0 {
+                return;
+            }
         }
+        self.body = None;
     }
 
     /// The number of the oldest frame from this number on that is seen to keep a whole place.
@@ -310,29 +319,17 @@ impl Body {
     }
 
     /// Where the last block has no frame its memory goes back, and the block before it takes its place.
-    fn refill(&mut self, alloc: Global)
+    fn refill(&mut self)
         requires { HaveFrames self.old.full.items }
         ensures have { HaveFrames self.new.full.items }
         ensures same { all_stored self.new.full.items self.new.last ≡ all_stored self.old.full.items self.old.last }
         ensures some { length self.new.last.frames ≡ 0 → all_stored self.new.full.items self.new.last ≡ [] }
     {
         if self.last.is_empty() {
-            self.last = take_newest(alloc, &mut self.full);
+            if let Some(newest) = self.full.pop() {
+                self.last = newest;
+            }
         }
-    }
-
-    /// Whether a frame from this number on is stored. Then the newest one of the last block is.
-    #[tactic(auto, using(crate::proofs::StackLemmas::stack_is_stored_steps))]
-    fn is_stored(&mut self, alloc: Global, from: usize) -> bool
-        requires { HaveFrames self.old.full.items }
-        ensures have { HaveFrames self.new.full.items }
-        ensures same { all_stored self.new.full.items self.new.last ≡ all_stored self.old.full.items self.old.last }
-        ensures yes { result ≡ true → (0 < length self.new.last.frames) × (from ≤ (newest self.new.last.frames).number) }
-        ensures no { result ≡ false → (count : ℕ) → Rise 0 (all_stored self.new.full.items self.new.last) count
-            → Rise 0 (all_stored self.new.full.items self.new.last) from }
-    {
-        self.refill(alloc);
-        after_newest(&self.last) > from
     }
 
     /// Drops all frames, unread, and gives half of their memory back, or more.
@@ -357,19 +354,6 @@ fn new_block(alloc: Global, wanted: Room, needed: Room) -> Result<Block, AllocEr
     }
 }
 
-/// Takes the newest block off. Where there is none, an empty one stands for it.
-fn take_newest(alloc: Global, full: &mut Blocks) -> Block
-    requires { HaveFrames full.old.items }
-    ensures have { HaveFrames full.new.items }
-    ensures same { all_stored full.new.items result ≡ all_stored full.old.items (record result { frames = [] }) }
-    ensures some { length result.frames ≡ 0 → all_stored full.new.items result ≡ [] }
-{
-    match full.pop() {
-        Some(newest) => newest,
-        None => Block::empty(alloc),
-    }
-}
-
 /// The number of the oldest stored frame from this number on that is seen to keep a whole place.
 #[tactic(auto, using(crate::proofs::Backs::stack_oldest_whole_steps))]
 fn oldest_whole(full: &[Block], last: &Block, from: usize, place: Place) -> Option<usize>
@@ -385,18 +369,6 @@ fn oldest_whole(full: &[Block], last: &Block, from: usize, place: Place) -> Opti
         }
     }
     last.first_whole(from, place)
-}
-
-/// The number after that of the newest frame of a block, or 0.
-fn after_newest(last: &Block) -> usize
-    ensures some { 0 < length last.now.frames → result ≡ (newest last.now.frames).number + 1 }
-    ensures none { length last.now.frames ≡ 0 → result ≡ 0 }
-{
-    if last.is_empty() {
-        0
-    } else {
-        last.newest_number() + 1
-    }
 }
 
 /// Whether a block has a frame whose number is this one or lower.
