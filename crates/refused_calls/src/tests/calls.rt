@@ -99,6 +99,15 @@ fn undo_reserve(rt: HostRuntime) -> Result<(), Fail> {
     Ok(())
 }
 
+/// The colour of the last pixel of a tile's first row.
+fn last_of_row(tile: &Tile) -> Option<Colour> {
+    if tile.place().holds(31, 0) {
+        Some(tile.get(31, 0))
+    } else {
+        None
+    }
+}
+
 /// A tile that is made late: nothing changes where there is no memory.
 #[test]
 fn tile_make(rt: HostRuntime) -> Result<(), Fail> {
@@ -110,11 +119,11 @@ fn tile_make(rt: HostRuntime) -> Result<(), Fail> {
     } else {
         println!(rt; "told Memory")?;
         assert!(rt; !tile.is_made());
-        assert_eq!(rt; tile.get(31, 0), colour(1, 2, 3, 4));
+        assert_eq!(rt; last_of_row(&tile), Some(colour(1, 2, 3, 4)));
         assert!(rt; tile.make().is_ok());
     }
     assert!(rt; tile.is_made());
-    assert_eq!(rt; tile.get(31, 0), colour(1, 2, 3, 4));
+    assert_eq!(rt; last_of_row(&tile), Some(colour(1, 2, 3, 4)));
     assert_eq!(rt; tile.flat_depth(), Some(65535));
     Ok(())
 }
