@@ -196,6 +196,7 @@ fn a_made_tile_is_alike_until_it_is_drawn_on(rt: HostRuntime) -> Result<(), Fail
     assert_eq!(rt; tile.flat_colour(), None);
     expect_row(&rt, &tile, 65, &[RED, NOTHING, RED, RED, RED])?;
     tile.fill_colours(NOTHING);
+    tile.deepen()?;
     tile.fill_depths(9);
     expect_row(&rt, &tile, 66, &[NOTHING; 5])?;
     expect_pixel(&rt, &tile, (36, 67), NOTHING, 9)?;
