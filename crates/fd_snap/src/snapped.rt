@@ -68,9 +68,18 @@ pub fn snap(position: Pos) -> Snapped
     ensures nearest_x { IsNearestEven position.x result.x }
     ensures nearest_y { IsNearestEven position.y result.y }
 {
+    position.snapped()
+}
+
+/// A point in 1/65536 pixel, snapped in both coordinates.
+pub(crate) fn snap_point(x: i32, y: i32) -> Snapped
+    requires across { unsigned_abs x ≤ position_limit }
+    requires down { unsigned_abs y ≤ position_limit }
+    ensures { result ≡ snapped_point (record { x = x; y = y }) }
+{
     Snapped {
-        x: snap_coordinate(position.x()),
-        y: snap_coordinate(position.y()),
+        x: snap_coordinate(x),
+        y: snap_coordinate(y),
     }
 }
 
