@@ -6,6 +6,7 @@ pub use grid::Grid;
 pub use place::{Place, TILE_SIDE};
 pub use tile::{Piece, Tile};
 
+mod corner;
 mod filling;
 mod grid;
 mod part;

@@ -41,7 +41,7 @@ invariant_of-self c =
     let i = c.self.invariant in
     let new = c.in_ok-self-inside.field-0.items in
     let shallow = c.if-self.false in
-    let listed = c.in_ok-self-inside.ensures.listed in
+    let listed = rw c.get-place.ensures at c.in_ok-self-inside.ensures.listed in
     record {
       placed = i.placed;
       counted = i.counted;
@@ -56,8 +56,9 @@ returns-clause-deep c =
     let t = c.self.inside in
     let shallow = c.if-self.false in
     let new = c.in_ok-self-inside.field-0.items in
+    let listed = rw c.get-place.ensures at c.in_ok-self-inside.ensures.listed in
     rw (
       ← c.self.view_is,
-      now t.place t.made t.deep t.depths.items new t.flat_depth shallow (c.self.invariant.greatest shallow) c.in_ok-self-inside.ensures.listed,
-      before t.place t.made t.deep t.depths.items new t.flat_depth shallow (c.self.invariant.greatest shallow) c.in_ok-self-inside.ensures.listed,
+      now t.place t.made t.deep t.depths.items new t.flat_depth shallow (c.self.invariant.greatest shallow) listed,
+      before t.place t.made t.deep t.depths.items new t.flat_depth shallow (c.self.invariant.greatest shallow) listed,
     )

@@ -20,11 +20,12 @@ pub returns : goal.returns
 returns c =
     let t = c.self.inside in
     let r = rw (← c.self.view_is) at c.requires in
+    let start = rw c.get-place.ensures at c.row_start-start.ensures in
     let counted = c.self.invariant.deep_counted (rw (r.made, r.deep) refl) in (
-      (refl, λ w. rw (← c.self.view_is, r.made, r.deep, vec_rows_left t.place t.depths counted c.args.y _ r.crossed c.row_start-start.ensures w)),
+      (refl, λ w. rw (← c.self.view_is, r.made, r.deep, c.get-place.ensures, vec_rows_left t.place t.depths counted c.args.y _ r.crossed start w)),
       record {
         writes_back = tt;
-        value = rw (← c.self.view_is, r.made, r.deep, c.part_mut.ensures.value)
-            (row_read t.place t.depths.items counted c.args.y c.row_start-start.result r.crossed c.row_start-start.ensures);
+        value = rw (← c.self.view_is, r.made, r.deep, c.part_mut.ensures.value, c.get-place.ensures)
+            (row_read t.place t.depths.items counted c.args.y c.row_start-start.result r.crossed start);
       },
     )

@@ -30,8 +30,8 @@ pub invariant_of-self : goal.invariant_of-self
 invariant_of-self c =
     let t = c.self.inside in
     let p = t.place in
-    let colours = λ (_ : true ≡ true). c.in_ok-colours.ensures.items_if_clones_equal (λ y same. same) in
-    let depths = c.in_ok-depths.ensures.listed in
+    let colours = λ (_ : true ≡ true). (rw c.get-place.ensures at c.in_ok-colours.ensures.items_if_clones_equal (λ y same. same)) in
+    let depths = rw c.get-place.ensures at c.in_ok-depths.ensures.listed in
     record {
       placed = c.self.invariant.placed;
       counted = counted p true _ t.flat_colour fresh _ c.unwrap_or-colour.ensures colours;
@@ -45,8 +45,8 @@ pub returns : goal.returns
 returns c =
     let t = c.self.inside in
     let p = t.place in
-    let colours = λ (_ : true ≡ true). c.in_ok-colours.ensures.items_if_clones_equal (λ y same. same) in
-    let depths = c.in_ok-depths.ensures.listed in
+    let colours = λ (_ : true ≡ true). (rw c.get-place.ensures at c.in_ok-colours.ensures.items_if_clones_equal (λ y same. same)) in
+    let depths = rw c.get-place.ensures at c.in_ok-depths.ensures.listed in
     record {
       made = rw (
         ← c.self.view_is,
