@@ -20,6 +20,7 @@ use crate::lane::{Gate, Lane};
 use crate::team::{Team, even_firsts};
 use fd_events::EventTable;
 use fd_memory::prime;
+use fd_owner::FoundClears;
 use std::alloc::{AllocError, Global};
 use std::thread::{Threads, join_mut};
 
@@ -146,14 +147,17 @@ pub fn run_forward<R: Threads + Sync, L: Lane, G: Gate>(
 
 /// Takes one lane forward until it stands at the fence or above it. Events that leave its image as it is are gone through at once, up to the next one
 /// that may draw, and so are clears that follow one another. Where it refuses a step, it lowers the fence to where it stands, and ends.
+/// Clears that a lane of the same worker found last it may go through as that did.
 /// No lock, and no wait for another worker: one load of the fence before each such run of events with the step after it, and at most one atomic minimum.
 fn draw_lane<L: Lane, G: Gate, S: Post>(
     course: &Course<'_, G>,
     number: usize,
     seat: &mut S,
+    found: &mut FoundClears<'_>,
     lane: &mut L,
 )
     requires seat { S.stands course.now.fence.now seat.old }
+    requires found { found.old ≡ course.now.table.now }
     requires can { CanWork (crew_of course.now.fence.now) (length course.now.table.now.events) (S.view seat.old) }
     requires fits { L.fits lane.old course.now.table.now }
     ensures seat { S.stands course.now.fence.now seat.new }
@@ -165,6 +169,7 @@ fn draw_lane<L: Lane, G: Gate, S: Post>(
     ensures wanted { ((S.view seat.new).low ≡ (S.view seat.old).low) ⊎ L.wanted }
     ensures passed { IsPassed (G.opened course.now.gate.now number) (L.shown lane.old) (L.shown lane.new) }
     ensures fits { L.fits lane.new course.now.table.now }
+    ensures found { found.new ≡ found.old }
 {
     loop {
         let limit = seat.look(course.fence);
@@ -179,9 +184,9 @@ fn draw_lane<L: Lane, G: Gate, S: Post>(
         if u64::from(from) >= limit {
             return;
         }
-        let clears = lane.next_clears(course.table, limit as u32);
+        let clears = lane.next_clears(found, limit as u32);
         course.gate.pass_each(number, from, clears.to);
-        lane.clear_to(course.table, clears);
+        lane.clear_to(found, clears);
         let at = lane.position();
         if u64::from(at) >= limit {
             return;
@@ -218,9 +223,10 @@ fn draw_lanes<L: Lane, G: Gate, S: Post>(
     ensures passed { ArePassed L.shown (G.opened course.now.gate.now) first lanes.old lanes.new }
 {
     let count = lanes.len();
+    let mut found = FoundClears::none(course.alloc, course.table);
     for (index, lane) in lanes.iter_mut().enumerate() {
         grow_heap(course, index, count.saturating_sub(index));
-        draw_lane(course, first + index, seat, lane);
+        draw_lane(course, first + index, seat, &mut found, lane);
     }
 }
 

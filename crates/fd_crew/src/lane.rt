@@ -5,7 +5,7 @@ ghost use Rattle.fd_owner.specs.Untouched.{AreUntouched};
 ghost use Rattle.fd_owner.specs.Shown.{gone_forward, gone_on_to, gone_back, gone_back_to, refused};
 
 use fd_events::EventTable;
-use fd_owner::{Clears, Owner, Refused};
+use fd_owner::{Clears, FoundClears, Owner, Refused};
 
 /// What a worker takes forward and back: a place with the list of its images, the opening one and one for each event that it went through.
 /// The position is the number of those events. A lane moves to the thread of the worker that owns it, and no other thread sees it until the worker has left.
@@ -69,15 +69,17 @@ pub trait Lane: Send {
         let (_table, _at_most) = (table, to);
     }
 
-    /// The next events, up to position `to` at most, that `clear_to` goes through at once. A lane that can't tell answers none.
-    fn next_clears(&self, table: &EventTable, to: u32) -> Clears
+    /// The next events, up to position `to` at most, that `clear_to` goes through at once, which may be those that another lane found last. A lane that can't
+    /// tell answers none.
+    fn next_clears(&self, found: &mut FoundClears<'_>, to: u32) -> Clears
         requires on { position (shown self.now).history ≤ to }
-        requires last { to ≤ length table.now.events }
-        requires fits { fits self.now table.now }
+        requires last { to ≤ length found.old.events }
+        requires fits { fits self.now found.old }
+        ensures same { found.new ≡ found.old }
         ensures least { position (shown self.now).history ≤ result.to }
         ensures most { result.to ≤ to }
     {
-        let (_table, _at_most) = (table, to);
+        let (_found, _at_most) = (found, to);
         Clears {
             to: self.position(),
             count: 0,
@@ -86,16 +88,16 @@ pub trait Lane: Send {
 
     /// Goes at once through these next events, as far as it needs no step of its own for one of them, and can't be refused. A lane that goes through each
     /// event for itself stays.
-    fn clear_to(&mut self, table: &EventTable, clears: Clears)
+    fn clear_to(&mut self, found: &FoundClears<'_>, clears: Clears)
         requires on { position (shown self.old).history ≤ clears.to }
-        requires last { clears.to ≤ length table.now.events }
-        requires fits { fits self.old table.now }
-        ensures moved { shown self.new ≡ gone_on_to table.now (position (shown self.new).history) (shown self.old) }
+        requires last { clears.to ≤ length found.now.events }
+        requires fits { fits self.old found.now }
+        ensures moved { shown self.new ≡ gone_on_to found.now (position (shown self.new).history) (shown self.old) }
         ensures least { position (shown self.old).history ≤ position (shown self.new).history }
         ensures most { position (shown self.new).history ≤ clears.to }
-        ensures fits { fits self.new table.now }
+        ensures fits { fits self.new found.now }
     {
-        let (_table, _clears) = (table, clears);
+        let (_found, _clears) = (found, clears);
     }
 
     /// Goes back over the last event: the exact inverse of the step forward, which can't be refused.
@@ -151,12 +153,12 @@ impl Lane for Owner {
         Owner::pass_to(self, table, to)
     }
 
-    fn next_clears(&self, table: &EventTable, to: u32) -> Clears {
-        Owner::next_clears(self, table, to)
+    fn next_clears(&self, found: &mut FoundClears<'_>, to: u32) -> Clears {
+        Owner::next_clears(self, found, to)
     }
 
-    fn clear_to(&mut self, table: &EventTable, clears: Clears) {
-        Owner::clear_to(self, table, clears)
+    fn clear_to(&mut self, found: &FoundClears<'_>, clears: Clears) {
+        Owner::clear_to(self, found, clears)
     }
 
     fn back(&mut self) {

@@ -27,8 +27,8 @@ pub(crate) fn clear_tile(clear: Clear, canvas: &mut Canvas<'_>)
     fill(clear, canvas.tile);
 }
 
-/// Draws a clear on a tile whose pixels are known to be alike, unless it wants memory for its depth there, and puts a frame on top that keeps them as one colour and one depth. It says
-/// whether that is what was done: of other events and other tiles nothing changes. It makes the room itself, and none is left.
+/// Draws a clear on a tile whose pixels are known to be alike, unless it wants memory for its depth there, and puts a frame on top that keeps them as one
+/// colour and one depth. It says whether that is what was done: of other events and other tiles nothing changes. It makes the room itself, and none is left.
 pub fn clear_alike(event: &Event, tile: &mut Tile, undo: &mut UndoStack) -> Result<bool, Full>
     ensures drawn { result ≡ Ok true → (state : Pipeline) → Paints (pixel_after event.now state) (kept_by event.now state)
         (record tile.old { deep = tile.new.deep }) (without_room undo.old.opens_fresh (undo.old.frames ++ [] ∷ [])) tile.new undo.new }

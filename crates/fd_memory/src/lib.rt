@@ -8,6 +8,7 @@ ghost use Rattle.fd_memory.specs.Wanting.{Wanted};
 use atomic_table::{Seat, Table, TableRule};
 use smallvec::SmallVec;
 use std::alloc::{AllocError, Global};
+use std::sync::Arc;
 
 /// Calls of the standard library that grow a list. Whoever proves one of them may say that memory was wanted, where it was refused; the crates above can't
 /// name this trait.
@@ -67,6 +68,13 @@ trait Growth {
         ensures wanted { OnErr result why }
     {
         Ok(Box::new(alloc, value)?)
+    }
+
+    fn shared<T: Drop>(alloc: Global, value: T) -> Result<Arc<T>, AllocError>
+        ensures value { IfOk result (λ held. held.value ≡ value) }
+        ensures wanted { OnErr result why }
+    {
+        Ok(Arc::new(alloc, value)?)
     }
 
     fn table<S: Drop, V, K, P: TableRule<S, V, K>>(
@@ -195,6 +203,14 @@ pub fn boxed<T: Drop>(alloc: Global, value: T) -> Result<Box<T>, AllocError>
     ensures wanted { OnErr result Wanted }
 {
     Heap::boxed(alloc, value)
+}
+
+/// A value in memory of its own, for several holders.
+pub fn shared<T: Drop>(alloc: Global, value: T) -> Result<Arc<T>, AllocError>
+    ensures value { IfOk result (λ held. held.value ≡ value) }
+    ensures wanted { OnErr result Wanted }
+{
+    Heap::shared(alloc, value)
 }
 
 /// A table of words, with no slot.

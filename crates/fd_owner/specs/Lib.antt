@@ -3,3 +3,4 @@ pub mod Shown
 pub mod Owner
 pub mod Step
 pub mod Untouched
+pub mod Clears

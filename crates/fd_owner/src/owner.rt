@@ -9,7 +9,7 @@ ghost use Rattle.fd_owner.specs.Step.{spans_past, pixels_past};
 ghost use Rattle.fd_owner.specs.Untouched.{AreUntouched};
 ghost use Rattle.fd_memory.specs.Wanting.{Wanted};
 
-use crate::clears::{Clears, clear_past, is_clear};
+use crate::clears::{Clears, FoundClears, clear_past, is_clear};
 use crate::next::{Next, number_past, pass_idle};
 use fd_blend::Colour;
 use fd_cover::Bounds;
@@ -244,22 +244,44 @@ impl Owner {
     }
 
     /// The next events, up to position `to` at most, that `clear_to` goes through: those up to the last clear before one that may write otherwise, as far as
-    /// boxes and flags tell; none where the pixels of the tile aren't known to be alike.
-    pub fn next_clears(&self, table: &EventTable, to: u32) -> Clears
+    /// boxes and flags tell; none where the pixels of the tile aren't known to be alike. Where the tile isn't made they may be those that were found last.
+    pub fn next_clears(&self, found: &mut FoundClears<'_>, to: u32) -> Clears
+        requires on { position self.now.history ≤ to }
+        requires last { to ≤ length found.old.events }
+        ensures same { found.new ≡ found.old }
+        ensures least { position self.now.history ≤ result.to }
+        ensures most { result.to ≤ to }
+    {
+        let position = self.position();
+        let none = Clears {
+            to: position,
+            count: 0,
+        };
+        let (Some(colour), Some(depth)) = (self.tile.flat_colour(), self.tile.flat_depth()) else {
+            return none;
+        };
+        if position >= to || !is_clear(found.table(), position) {
+            return none;
+        }
+        if !self.tile.is_made() && self.recorded() == 0 {
+            let end = found.find(position, (colour, depth), to);
+            if end > position {
+                return Clears { to: end, count: 0 };
+            }
+        }
+        self.own_clears(found.table(), to)
+    }
+
+    /// The same of the tile's own.
+    fn own_clears(&self, table: &EventTable, to: u32) -> Clears
         requires on { position self.now.history ≤ to }
         requires last { to ≤ length table.now.events }
         ensures least { position self.now.history ≤ result.to }
         ensures most { result.to ≤ to }
     {
-        let mut clears = Clears {
-            to: self.position(),
-            count: 0,
-        };
-        if self.tile.flat_colour().is_none() || self.tile.flat_depth().is_none() {
-            return clears;
-        }
         let window = self.bounds();
-        let mut near = clears.to;
+        let mut near = self.position();
+        let mut clears = Clears { to: near, count: 0 };
         while near < to && is_clear(table, near) {
             near += 1;
             clears = Clears {
@@ -274,8 +296,44 @@ impl Owner {
     }
 
     /// Goes at once through these next events, as far as they are clears or write nothing, the pixels of the tile are known to be alike and there is memory
-    /// for what they overwrite. It can't be refused: it ends before the first event that wants another step.
-    pub fn clear_to(&mut self, table: &EventTable, clears: Clears)
+    /// for what they overwrite. It can't be refused: it ends before the first event that wants another step. What clears overwrite that were found last is
+    /// kept once for all tiles that go through them.
+    pub fn clear_to(&mut self, found: &FoundClears<'_>, clears: Clears)
+        requires on { position self.old.history ≤ clears.to }
+        requires last { clears.to ≤ length found.now.events }
+        requires inside { IsInside self.old.place found.now }
+        ensures moved { self.new ≡ gone_on_to found.now (position self.new.history) self.old }
+        ensures least { position self.old.history ≤ position self.new.history }
+        ensures most { position self.new.history ≤ clears.to }
+    {
+        if !self.take_found(found, clears.to) {
+            self.clear_own(found.table(), clears);
+        }
+    }
+
+    /// Goes through the clears that were found last, if they begin where it stands and end at this position. It says whether it did: else nothing changes.
+    fn take_found(&mut self, found: &FoundClears<'_>, to: u32) -> bool
+        requires inside { IsInside self.old.place found.now }
+        ensures moved { result ≡ true → self.new ≡ gone_on_to found.now (position self.new.history) self.old }
+        ensures least { result ≡ true → position self.old.history ≤ position self.new.history }
+        ensures most { result ≡ true → position self.new.history ≤ to }
+        ensures no { result ≡ false → self.new ≡ self.old }
+    {
+        let (position, _place) = (self.position(), self.tile.place());
+        let (Some(colour), Some(depth)) = (self.tile.flat_colour(), self.tile.flat_depth()) else {
+            return false;
+        };
+        if self.tile.is_made() {
+            return false;
+        }
+        match found.run(position, (colour, depth), to) {
+            Some(run) => run.take(&mut self.tile, &mut self.undo),
+            None => false,
+        }
+    }
+
+    /// Goes one by one through next events, as `clear_to` does.
+    fn clear_own(&mut self, table: &EventTable, clears: Clears)
         requires on { position self.old.history ≤ clears.to }
         requires last { clears.to ≤ length table.now.events }
         requires inside { IsInside self.old.place table.now }

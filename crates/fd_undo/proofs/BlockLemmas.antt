@@ -99,7 +99,7 @@ module _ (marks : List Mark) (h : Held) (frames : List KeptFrame) (order : AreIn
   grown_frames n row more = grind (arith, top_is, newest-push, others-push, below, below-same (others marks))
 
 -- ---- a frame that is looked for by its number
-rise-place : (frames : List KeptFrame) (i count a : ℕ) → Rise i frames count → a < length frames
+pub rise-place : (frames : List KeptFrame) (i count a : ℕ) → Rise i frames count → a < length frames
     → (i ≤ (get_or frames a no_frame).number) × ((b : ℕ) → a < b → b < length frames → (get_or frames a no_frame).number < (get_or frames b no_frame).number)
 rise-place [] i count a is within = absurd (omega arith)
 rise-place (f ∷ frames) i count zero is within = (is.0, λ b before last. grind (arith, common_steps, rise-place frames (f.number + 1) count (b - 1) is.1))
@@ -141,14 +141,17 @@ cut-at marks spans end a is within = (mark-at marks spans end a is within).0
 pub next-at : (marks : List Mark) (a end : ℕ) → a < length marks → next (drop a marks) end ≡ (get_or marks a no_mark).span
 next-at marks a end within = cc (drop_more marks a no_mark within)
 
-pub searched : (marks : List Mark) (n : ℕ) (r : Result ℕ ℕ) → NumbersRise marks → IsSearchInRange r (length marks)
-    → IsBinarySearchResult (λ m. nat_cmp m.number n) marks r
-    → IfSome (result_ok r) (λ a. (a < length marks) × (number_at marks a ≡ n)) × (result_ok r ≡ None → (a : ℕ) → a < length marks → number_at marks a ≢ n)
-searched marks n (Ok a) rising in_range equal = ((in_range, grind (arith, nat_tests, equal no_mark)), λ none. absurd (cc))
-searched marks n (Err p) rising in_range parted =
-    let parts = parted (IsNonDecreasingBy-from_default (λ m. ordering_index (nat_cmp m.number n)) marks no_mark
-    (λ a b le in_range. grind (arith, nat_tests, rising.rises a b))) in
-    (tt, λ _ a within same. grind (arith, nat_tests, parts.0 a no_mark, parts.1 a no_mark))
+-- items whose numbers rise, of which one is looked for by its number
+module _ {X : Type 0} (number : X → ℕ) (none : X) (items : List X) (n : ℕ)
+    (rises : (a b : ℕ) → a < b → b < length items → number (get_or items a none) < number (get_or items b none)) where
+  pub searched : (r : Result ℕ ℕ) → IsSearchInRange r (length items) → IsBinarySearchResult (λ x. nat_cmp (number x) n) items r
+      → IfSome (result_ok r) (λ a. (a < length items) × (number (get_or items a none) ≡ n))
+      × (result_ok r ≡ None → (a : ℕ) → a < length items → number (get_or items a none) ≢ n)
+  searched (Ok a) in_range equal = ((in_range, grind (arith, nat_tests, equal none)), λ none. absurd (cc))
+  searched (Err p) in_range parted =
+      let parts = parted (IsNonDecreasingBy-from_default (λ x. ordering_index (nat_cmp (number x) n)) items none
+      (λ a b le in_range. grind (arith, nat_tests, rises a b))) in
+      (tt, λ _ a within same. grind (arith, nat_tests, parts.0 a none, parts.1 a none))
 
 -- ---- what the goals of a function want, which names it in its attribute
 pub ruleset block_begin_steps = (marked-push, marks-push)

@@ -6,3 +6,4 @@ pub mod RowLemmas
 pub mod BlockLemmas
 pub mod StackLemmas
 pub mod Backs
+pub mod SharedLemmas

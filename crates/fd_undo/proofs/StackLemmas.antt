@@ -19,7 +19,7 @@ use Rattle.std.proofs.lemmas.List.Folds.{sum_by-replicate}
 use Rattle.std.proofs.lemmas.List.Sums.{sum_by-cons, sum_by-append, sum_by_push}
 
 -- ---- the numbers
-rise-push : (i : ℕ) (stored : List KeptFrame) (f : KeptFrame) (count : ℕ) → Rise i stored f.number → f.number + 1 ≤ count
+pub rise-push : (i : ℕ) (stored : List KeptFrame) (f : KeptFrame) (count : ℕ) → Rise i stored f.number → f.number + 1 ≤ count
     → Rise i (stored ++ f ∷ []) count
 rise-push i [] f count is within = (is, within)
 rise-push i (t ∷ stored) f count is within = (is.0, rise-push (t.number + 1) stored f count is.1 within)
@@ -28,11 +28,11 @@ pub rise-grow : (i : ℕ) (stored : List KeptFrame) (count more : ℕ) → Rise 
 rise-grow i [] count more is fits = omega arith
 rise-grow i (t ∷ stored) count more is fits = (is.0, rise-grow (t.number + 1) stored count more is.1 fits)
 
-rise-within : (i : ℕ) (stored : List KeptFrame) (count : ℕ) → Rise i stored count → i ≤ count
+pub rise-within : (i : ℕ) (stored : List KeptFrame) (count : ℕ) → Rise i stored count → i ≤ count
 rise-within i [] count is = is
 rise-within i (t ∷ stored) count is = omega (arith, is.0, rise-within (t.number + 1) stored count is.1)
 
-rise-lower : (i k : ℕ) (stored : List KeptFrame) (count : ℕ) → Rise k stored count → i ≤ k → Rise i stored count
+pub rise-lower : (i k : ℕ) (stored : List KeptFrame) (count : ℕ) → Rise k stored count → i ≤ k → Rise i stored count
 rise-lower i k [] count is low = omega arith
 rise-lower i k (t ∷ stored) count is low = (omega (arith, is.0), is.1)
 
@@ -42,17 +42,17 @@ rise-first i [] count is some = absurd (omega arith)
 rise-first i (f ∷ stored) count is some = (is.0, omega (arith, rise-within (f.number + 1) stored count is.1))
 
 -- those of a part rise from some number on, up to where those of the next begin
-rise-split : (i : ℕ) (low high : List KeptFrame) (count : ℕ) → Rise i (low ++ high) count → (mid : ℕ) × Rise i low mid × Rise mid high count
+pub rise-split : (i : ℕ) (low high : List KeptFrame) (count : ℕ) → Rise i (low ++ high) count → (mid : ℕ) × Rise i low mid × Rise mid high count
 rise-split i [] high count is = (i, omega arith, is)
 rise-split i (t ∷ low) high count is = let r = rise-split (t.number + 1) low high count is.1 in (r.0, (is.0, r.1), r.2)
 
 pub rise-back : (i : ℕ) (low high : List KeptFrame) (count : ℕ) → Rise i (low ++ high) count → Rise i high count
 rise-back i low high count is = grind (arith, rise-split i low high count is, rise-lower, rise-within)
 
-rise-front : (i : ℕ) (low high : List KeptFrame) (count : ℕ) → Rise i (low ++ high) count → Rise i low count
+pub rise-front : (i : ℕ) (low high : List KeptFrame) (count : ℕ) → Rise i (low ++ high) count → Rise i low count
 rise-front i low high count is = grind (arith, rise-split i low high count is, rise-grow, rise-within)
 
-rise-pop : (i : ℕ) (stored : List KeptFrame) (f : KeptFrame) (count : ℕ) → Rise i (stored ++ f ∷ []) count
+pub rise-pop : (i : ℕ) (stored : List KeptFrame) (f : KeptFrame) (count : ℕ) → Rise i (stored ++ f ∷ []) count
     → Rise i stored f.number × (f.number + 1 ≤ count)
 rise-pop i stored f count is = grind (arith, rise-split, rise-grow)
 
@@ -69,6 +69,15 @@ pub frames-grow : (i : ℕ) (stored : List KeptFrame) (count more : ℕ) → Ris
 frames-grow i [] count more is fits = grind (arith, replicate-append-replicate)
 frames-grow i (t ∷ stored) count more is fits = grind (arith, frames-grow (t.number + 1) stored count more is.1 fits, append_assoc)
 
+together : (k n : ℕ) → k ≤ n → (let none : List (List KeptPixel) = replicate k [] in none) ++ replicate (n - k) [] ≡ replicate (n - 0) []
+together k n low = grind (arith, replicate-append-replicate)
+
+-- those before the first of them, which are not stored
+pub frames-lower : (k : ℕ) (stored : List KeptFrame) (count : ℕ) → Rise k stored count
+    → frames_from 0 stored count ≡ replicate k [] ++ frames_from k stored count
+frames-lower k [] count is = sym (together k count is)
+frames-lower k (t ∷ stored) count is = grind (arith, together k t.number is.0, append_assoc)
+
 pub frames-passed : (stored : List KeptFrame) (frames : List (List KeptPixel)) (count more : ℕ) → Rise 0 stored count
     → frames_from 0 stored count ≡ frames → length frames ≤ more → frames_from 0 stored more ≡ frames ++ replicate (more - length frames) []
 frames-passed stored frames count more is shown fits = grind (arith, length-frames 0 stored count is, frames-grow 0 stored count more is)
@@ -76,7 +85,7 @@ frames-passed stored frames count more is shown fits = grind (arith, length-fram
 pub frames-next : (stored : List KeptFrame) (count : ℕ) → Rise 0 stored count → frames_from 0 stored (count + 1) ≡ frames_from 0 stored count ++ [] ∷ []
 frames-next stored count is = grind (arith, frames-grow 0 stored count (count + 1) is)
 
-frames-push : (i : ℕ) (stored : List KeptFrame) (f : KeptFrame) (count : ℕ)
+pub frames-push : (i : ℕ) (stored : List KeptFrame) (f : KeptFrame) (count : ℕ)
     → frames_from i (stored ++ f ∷ []) count ≡ frames_from i stored f.number ++ f.kept ∷ replicate (count - (f.number + 1)) []
 frames-push i [] f count = refl
 frames-push i (t ∷ stored) f count = grind (arith, frames-push (t.number + 1) stored f count, append_assoc)
@@ -162,7 +171,7 @@ missed low [] count from before none is = rw (none refl) (omega arith)
 missed low (t ∷ frames) count from before none is = grind (arith, split_all, rise-pop, rise-push)
 
 -- ---- a frame that is looked for by its number
-found-low : (i : ℕ) (stored : List KeptFrame) (count n : ℕ) → Rise i stored count → n < i → found n stored ≡ []
+pub found-low : (i : ℕ) (stored : List KeptFrame) (count n : ℕ) → Rise i stored count → n < i → found n stored ≡ []
 found-low i [] count n is low = refl
 found-low i (t ∷ stored) count n is low = grind (arith, nat_tests, found-low (t.number + 1) stored count n is.1)
 
@@ -174,12 +183,12 @@ found-frames i (t ∷ stored) count k is =
     grind (arith, nat_tests, common_steps, later, low, length-replicate, get_or-append_right)
 
 -- a number below, in or above some frames
-found-high : (i : ℕ) (low high : List KeptFrame) (mid n : ℕ) → Rise i low mid → mid ≤ n → found n (low ++ high) ≡ found n high
+pub found-high : (i : ℕ) (low high : List KeptFrame) (mid n : ℕ) → Rise i low mid → mid ≤ n → found n (low ++ high) ≡ found n high
 found-high i [] high mid n is past = refl
 found-high i (t ∷ low) high mid n is past =
     grind (arith, nat_tests, found-high (t.number + 1) low high mid n is.1 past, rise-within (t.number + 1) low mid is.1)
 
-found-front : (low high : List KeptFrame) (n : ℕ) → found n high ≡ [] → found n (low ++ high) ≡ found n low
+pub found-front : (low high : List KeptFrame) (n : ℕ) → found n high ≡ [] → found n (low ++ high) ≡ found n low
 found-front [] high n none = none
 found-front (t ∷ low) high n none = cc (found-front low high n none)
 
@@ -195,7 +204,7 @@ found-middle a b c count n is some from none =
     let q = rise-split r.0 b c count r.2 in
     grind (arith, found-high 0 a (b ++ c) r.0 n r.1, found-front b c n, rise-first r.0 b q.0 q.1 some)
 
-found-part : (a b c : List KeptFrame) (count n : ℕ) → Rise 0 (a ++ (b ++ c)) count → 0 < length (found n b) → found n (a ++ (b ++ c)) ≡ found n b
+pub found-part : (a b c : List KeptFrame) (count n : ℕ) → Rise 0 (a ++ (b ++ c)) count → 0 < length (found n b) → found n (a ++ (b ++ c)) ≡ found n b
 found-part a b c count n is some =
     let r = rise-split 0 a (b ++ c) count is in
     let q = rise-split r.0 b c count r.2 in
@@ -279,7 +288,7 @@ pub ruleset stack_keep_known_steps = (
   length-frames,
 )
 
-pub ruleset stack_slices_of_steps = (found-frames)
+pub ruleset stack_found_steps = (found-frames)
 
 pub ruleset stack_is_stored_steps = (missed)
 

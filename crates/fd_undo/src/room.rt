@@ -7,7 +7,7 @@ const LEAST_ROOM: usize = 64;
 /// It has room for twice what the block before it holds, but for no more than so many beside its first frame.
 const GREATEST_ROOM: usize = 2048;
 
-/// So many spans stand in the block's lists themselves, and more in memory of their own.
+/// So many spans stand in a block itself, and more in memory of their own.
 pub(crate) const SPANS_INSIDE: usize = 8;
 
 /// How many frames, spans, colours and depths a block has room for.

@@ -123,6 +123,14 @@ fn of_blank_tile(alloc: Global, place: Place) -> Owner
     Owner::of(alloc, Tile::blank(alloc, place))
 }
 
+/// Its last pixel.
+const ONE: Place = Place {
+    left: 1,
+    top: 1,
+    width: 1,
+    height: 1,
+};
+
 /// Goes through the next event, where there is one.
 fn forward(owner: &mut Owner, table: &EventTable) -> Result<(), Fail> {
     let place = owner.place();
@@ -336,16 +344,23 @@ fn clears_and_a_draw(alloc: Global) -> Result<EventTable, Fail> {
     Ok(table)
 }
 
-/// Goes at once through the clears that are next, and says up to which position and how many they are.
-fn clear(owner: &mut Owner, table: &EventTable) -> Result<(u32, u32), Fail> {
+/// Goes at once through the clears that are next, and says up to which position they are, and how many the tile keeps by itself.
+fn clear(
+    owner: &mut Owner,
+    found: &mut FoundClears<'_>,
+    table: &EventTable,
+) -> Result<(u32, u32), Fail>
+    requires { found.old ≡ table.now }
+    ensures { found.new ≡ found.old }
+{
     let place = owner.place();
     let inside = place.left + place.width <= table.width()
         && place.top + place.height <= table.height();
     if owner.position() > table.len() || !inside {
         return Err(Fail::from("no next event"));
     }
-    let clears = owner.next_clears(table, table.len());
-    owner.clear_to(table, clears);
+    let clears = owner.next_clears(found, table.len());
+    owner.clear_to(found, clears);
     Ok((clears.to, clears.count))
 }
 
@@ -354,14 +369,15 @@ fn clear(owner: &mut Owner, table: &EventTable) -> Result<(u32, u32), Fail> {
 fn clears_are_gone_through_at_once(rt: HostRuntime) -> Result<(), Fail> {
     let alloc = rt.alloc();
     let table = clears_and_a_draw(alloc)?;
+    let mut found = FoundClears::none(alloc, &table);
     let mut owner = of_blank_tile(alloc, FOUR);
-    assert_eq!(rt; clear(&mut owner, &table)?, (0, 0));
+    assert_eq!(rt; clear(&mut owner, &mut found, &table)?, (0, 0));
     forward(&mut owner, &table)?;
-    assert_eq!(rt; clear(&mut owner, &table)?, (5, 3));
+    assert_eq!(rt; clear(&mut owner, &mut found, &table)?, (5, 0));
     assert!(rt; !owner.tile.is_made());
     assert_eq!(rt; shown(&owner), (5, 12, (colour(3, 3, 3, 3), 7)));
     forward(&mut owner, &table)?;
-    assert_eq!(rt; clear(&mut owner, &table)?, (6, 0));
+    assert_eq!(rt; clear(&mut owner, &mut found, &table)?, (6, 0));
     back(&mut owner)?;
     back(&mut owner)?;
     assert_eq!(rt; shown(&owner), (4, 8, (colour(2, 2, 2, 2), 7)));
@@ -369,6 +385,64 @@ fn clears_are_gone_through_at_once(rt: HostRuntime) -> Result<(), Fail> {
     assert_eq!(rt; shown(&owner), (3, 4, (colour(2, 2, 2, 2), 65535)));
     back_to_start(&mut owner);
     assert_eq!(rt; shown(&owner), (0, 0, (colour(0, 0, 0, 0), 65535)));
+    Ok(())
+}
+
+/// What a tile keeps already stands below what it keeps of more clears.
+#[test]
+fn clears_follow_a_clear(rt: HostRuntime) -> Result<(), Fail> {
+    let alloc = rt.alloc();
+    let table = clears_and_a_draw(alloc)?;
+    let mut found = FoundClears::none(alloc, &table);
+    let mut owner = of_blank_tile(alloc, FOUR);
+    forward(&mut owner, &table)?;
+    forward(&mut owner, &table)?;
+    assert_eq!(rt; clear(&mut owner, &mut found, &table)?, (2, 0));
+    forward(&mut owner, &table)?;
+    assert_eq!(rt; clear(&mut owner, &mut found, &table)?, (5, 2));
+    assert_eq!(rt; shown(&owner), (5, 12, (colour(3, 3, 3, 3), 7)));
+    back(&mut owner)?;
+    back(&mut owner)?;
+    assert_eq!(rt; shown(&owner), (3, 4, (colour(2, 2, 2, 2), 65535)));
+    Ok(())
+}
+
+/// Has an owner go through the first clears, and back over the last: so many pixels are kept at positions 5 and 4.
+fn clear_and_back(
+    rt: &impl Abort,
+    mut owner: Owner,
+    kept: (u64, u64),
+    found: &mut FoundClears<'_>,
+    table: &EventTable,
+) -> Result<(), Fail>
+    requires { found.old ≡ table.now }
+    ensures { found.new ≡ found.old }
+{
+    forward(&mut owner, table)?;
+    assert_eq!(rt; clear(&mut owner, found, table)?, (5, 0));
+    assert_eq!(rt; shown(&owner), (5, kept.0, (colour(3, 3, 3, 3), 7)));
+    back(&mut owner)?;
+    assert_eq!(rt; shown(&owner), (4, kept.1, (colour(2, 2, 2, 2), 7)));
+    Ok(())
+}
+
+/// Tiles of other sizes go through the clears that one found, and one of another colour through its own.
+#[test]
+fn clears_are_found_once(rt: HostRuntime) -> Result<(), Fail> {
+    let alloc = rt.alloc();
+    let table = clears_and_a_draw(alloc)?;
+    let mut found = FoundClears::none(alloc, &table);
+    clear_and_back(&rt, of_blank_tile(alloc, FOUR), (12, 8), &mut found, &table)?;
+    clear_and_back(&rt, of_blank_tile(alloc, ONE), (3, 2), &mut found, &table)?;
+    let mut tile = Tile::blank(alloc, ONE);
+    tile.fill_colours(colour(9, 9, 9, 9));
+    let mut owner = Owner::of(alloc, tile);
+    forward(&mut owner, &table)?;
+    assert_eq!(rt; clear(&mut owner, &mut found, &table)?, (5, 0));
+    for _ in 0..4 {
+        back(&mut owner)?;
+    }
+    assert_eq!(rt; shown(&owner), (1, 0, (colour(9, 9, 9, 9), 65535)));
     Ok(())
 }
 

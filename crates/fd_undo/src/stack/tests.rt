@@ -1,8 +1,11 @@
-ghost use Rattle.std.specs.Prelude.{◌≡◌, ◌<◌, ◌≤◌, IsTrue, All, length, true, false};
-ghost use Rattle.fd_tile.specs.Place.{HasRow, Holds};
+ghost use Rattle.std.specs.Prelude.{◌≡◌, ◌<◌, ◌≤◌, IsTrue, IfOk, All, length, true, false};
+ghost use Rattle.fd_tile.specs.Place.{HasRow, Holds, IsTilePlace};
+ghost use Rattle.fd_tile.specs.declared.place.Place.{Place};
+ghost use Rattle.fd_undo.specs.Alike.{kept_alike};
+ghost use Rattle.fd_undo.specs.Block.{Rise};
 
-use crate::UndoStack;
 use crate::room::Room;
+use crate::{AlikeFrame, AlikeFrames, UndoStack};
 use fd_blend::Colour;
 use fd_tile::{Place, Tile};
 use std::alloc::Global;
@@ -25,6 +28,13 @@ const RED: Colour = Colour {
 
 const SMALL: Place = Place {
     left: 0,
+    top: 0,
+    width: 2,
+    height: 2,
+};
+
+const BESIDE: Place = Place {
+    left: 2,
     top: 0,
     width: 2,
     height: 2,
@@ -571,4 +581,97 @@ fn few_spans_have_room_in_a_block_itself(rt: HostRuntime) -> Result<(), Fail> {
     assert!(rt; undo.store.takes(Room::needed(8, 0)));
     assert!(rt; !undo.store.takes(Room::needed(9, 0)));
     Ok(())
+}
+
+/// Frames 1 and 3: of all pixels, which were fresh, and then red and 7 deep.
+fn two_alike(alloc: Global) -> Result<AlikeFrames, Fail>
+    ensures { IfOk result (λ frames. (place : Place) → Rise 1 (kept_alike place frames) 5) }
+{
+    let mut list = Vec::new(alloc);
+    list.push(AlikeFrame {
+        number: 1,
+        colour: FRESH,
+        depth: DEEP,
+    })?;
+    list.push(AlikeFrame {
+        number: 3,
+        colour: RED,
+        depth: 7,
+    })?;
+    Ok(AlikeFrames::of(alloc, list)?)
+}
+
+/// Has a stack of one frame at most share such frames, among five in all.
+#[tactic(auto, using(crate::proofs::SharedLemmas::stack_share_steps))]
+fn share(undo: &mut UndoStack, frames: &AlikeFrames, place: Place) -> Result<bool, Fail>
+    requires placed { IsTilePlace place }
+    requires rise { Rise 1 (kept_alike place frames.now) 5 }
+{
+    if undo.frames() > 1 {
+        return Err("at most one frame".into());
+    }
+    Ok(undo.share(frames, place, 5))
+}
+
+/// Stacks of two places that share them.
+fn sharing(alloc: Global) -> Result<(UndoStack, UndoStack), Fail> {
+    let frames = two_alike(alloc)?;
+    let mut here = UndoStack::new(alloc);
+    let mut beside = UndoStack::new(alloc);
+    if share(&mut here, &frames, SMALL)? && share(&mut beside, &frames, BESIDE)? {
+        Ok((here, beside))
+    } else {
+        Err("stacks that share frames".into())
+    }
+}
+
+#[test]
+fn frames_are_shared(rt: HostRuntime) -> Result<(), Fail> {
+    let alloc = rt.alloc();
+    let (mut here, beside) = sharing(alloc)?;
+    expect_counts(&rt, &here, 8, 5)?;
+    expect_kept(&rt, &here, 1, (1, 1, 0), Some((FRESH, DEEP)));
+    expect_kept(&rt, &here, 3, (0, 1, 0), Some((RED, 7)));
+    expect_kept(&rt, &here, 3, (0, 1, 1), None);
+    expect_kept(&rt, &here, 2, (0, 1, 0), None);
+    expect_kept(&rt, &here, 1, (2, 0, 0), None);
+    expect_kept(&rt, &beside, 1, (2, 0, 0), Some((FRESH, DEEP)));
+    here.clear();
+    expect_counts(&rt, &here, 0, 0)?;
+    expect_counts(&rt, &beside, 8, 5)?;
+    let mut kept = Vec::new(alloc);
+    beside.add_kept(3, (3, 1), 2, &mut kept)?;
+    assert_eq!(rt; &kept[..], [(RED, 7)].as_slice());
+    Ok(())
+}
+
+#[test]
+fn own_frames_lie_above_shared_ones(rt: HostRuntime) -> Result<(), Fail> {
+    let (mut here, mut beside) = sharing(rt.alloc())?;
+    begin(&mut here, 1, 1)?;
+    keep(&mut here, 1, 1, &[RED], &[9])?;
+    expect_counts(&rt, &here, 9, 6)?;
+    expect_kept(&rt, &here, 5, (1, 1, 0), Some((RED, 9)));
+    expect_kept(&rt, &here, 3, (1, 1, 0), Some((RED, 7)));
+    drop_to_whole(&mut here, 2);
+    expect_counts(&rt, &here, 8, 4)?;
+    drop_to_whole(&mut here, 0);
+    expect_counts(&rt, &here, 4, 2)?;
+    // those of another place keep none of this one
+    drop_to_whole(&mut beside, 2);
+    expect_counts(&rt, &beside, 8, 5)
+}
+
+#[test]
+fn a_stack_with_a_frame_shares_none(rt: HostRuntime) -> Result<(), Fail> {
+    let alloc = rt.alloc();
+    let mut undo = UndoStack::new(alloc);
+    let frames = two_alike(alloc)?;
+    undo.push_alike(SMALL, RED, 9)?;
+    assert!(rt; !share(&mut undo, &frames, SMALL)?);
+    expect_counts(&rt, &undo, 4, 1)?;
+    undo.clear();
+    assert!(rt; !share(&mut undo, &AlikeFrames::of(alloc, Vec::new(alloc))?, SMALL)?);
+    assert!(rt; share(&mut undo, &frames, SMALL)?);
+    expect_counts(&rt, &undo, 8, 5)
 }

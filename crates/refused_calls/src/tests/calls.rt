@@ -9,7 +9,7 @@ use fd_events::{Event, EventTable, Label, TableFault};
 use fd_owner::{Owner, Refused};
 use fd_pam::header;
 use fd_tile::{Place, Tile};
-use fd_undo::UndoStack;
+use fd_undo::{AlikeFrames, UndoStack};
 use std::alloc::{AllocError, Global};
 use std::process::Abort;
 use std::test::Fail;
@@ -165,6 +165,20 @@ fn undo_push_alike(rt: HostRuntime) -> Result<(), Fail> {
         assert!(rt; undo.push_alike(deep, FRESH, 65535).is_ok());
     }
     assert_eq!(rt; (undo.frames(), undo.recorded()), (1, 32));
+    Ok(())
+}
+
+/// Frames that stacks share.
+#[test]
+fn undo_alike_frames(rt: HostRuntime) -> Result<(), Fail> {
+    let alloc = rt.alloc();
+    println!(rt; "ready")?;
+    if AlikeFrames::of(alloc, Vec::new(alloc)).is_ok() {
+        println!(rt; "told Ok")?;
+    } else {
+        println!(rt; "told Memory")?;
+        assert!(rt; AlikeFrames::of(alloc, Vec::new(alloc)).is_ok());
+    }
     Ok(())
 }
 

@@ -25,13 +25,15 @@ loop-number-preserved g c =
     c.position-position.ensures c.loop-number.invariant.passed c.pass_each.ensures c.pass_to.ensures.most in
     let passed = passed_near opened old near cleared c.position-from.result c.next_clears-clears.result.to c.position-from.ensures near_passed
     c.pass_each-in-loop-number.ensures c.clear_to.ensures.most in
+    let on_table = rw (c.next_clears-clears.ensures.same ∙ c.loop-number.invariant.found) at c.clear_to.ensures.moved in
     record {
       seat = c.look-limit.ensures.seat;
       share = ap (λ (v : View). v.share) c.look-limit.ensures.view ∙ c.loop-number.invariant.share;
       low = ap (λ (v : View). v.low) c.look-limit.ensures.view ∙ c.loop-number.invariant.low;
       seen = omega arith;
+      found = c.next_clears-clears.ensures.same ∙ c.loop-number.invariant.found;
       fits = c.forward.ensures.fits;
-      ran = ran_more _ _ _ _ is.1 (ran_on _ _ _ _ c.clear_to.ensures.moved c.clear_to.ensures.least
+      ran = ran_more _ _ _ _ is.1 (ran_on _ _ _ _ on_table c.clear_to.ensures.least
           (ran_on _ _ _ _ c.pass_to.ensures.moved c.pass_to.ensures.least c.loop-number.invariant.ran));
       passed = passed_step opened old cleared (g.L.Lane.shown c.forward.new.self) (c.position-at.result + 1) passed c.pass.ensures (omega arith) (omega arith);
       within = inl (omega arith);
@@ -60,7 +62,8 @@ returns-then-from-limit-3-clause-lane g c =
     let cleared = g.L.Lane.shown c.clear_to.new.self in
     let seat = g.S.Post.view c.look-limit.new.self in
     let seen : seat.seen ≡ c.look-limit.result = ap (λ (v : View). v.seen) c.look-limit.ensures.view in
-    let ran : Ran table old cleared = ran_on _ _ _ _ c.clear_to.ensures.moved c.clear_to.ensures.least
+    let on_table = rw (c.next_clears-clears.ensures.same ∙ c.loop-number.invariant.found) at c.clear_to.ensures.moved in
+    let ran : Ran table old cleared = ran_on _ _ _ _ on_table c.clear_to.ensures.least
     (ran_on _ _ _ _ c.pass_to.ensures.moved c.pass_to.ensures.least c.loop-number.invariant.ran) in
     drawn_quiet _ _ _ _ _ _ ran (inl (omega arith)) (omega arith)
 
@@ -70,7 +73,8 @@ returns-then-is_err-clause-lane g c =
     let old = g.L.Lane.shown c.args.lane.now in
     let cleared = g.L.Lane.shown c.clear_to.new.self in
     let is = at_err _ _ _ c.forward.ensures.moved (sym c.is_err.ensures.value ∙ c.if-is_err.true) in
-    let ran : Ran table old cleared = ran_on _ _ _ _ c.clear_to.ensures.moved c.clear_to.ensures.least
+    let on_table = rw (c.next_clears-clears.ensures.same ∙ c.loop-number.invariant.found) at c.clear_to.ensures.moved in
+    let ran : Ran table old cleared = ran_on _ _ _ _ on_table c.clear_to.ensures.least
     (ran_on _ _ _ _ c.pass_to.ensures.moved c.pass_to.ensures.least c.loop-number.invariant.ran) in
     drawn_refused _ _ _ _ _ _ _ ran is.1 (omega arith) (omega arith) (omega arith)
 

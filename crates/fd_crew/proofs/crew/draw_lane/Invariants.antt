@@ -12,6 +12,7 @@ invariant-loop-number g l =
       share : (g.S.Post.view l.seat).share ≡ (g.S.Post.view l.initial.seat).share;
       low : (g.S.Post.view l.seat).low ≡ (g.S.Post.view l.initial.seat).low;
       seen : (g.S.Post.view l.seat).seen ≤ (g.S.Post.view l.initial.seat).seen;
+      found : l.found ≡ l.course.table.now;
       fits : g.L.Lane.fits l.lane l.course.table.now;
       ran : Ran l.course.table.now old now;
       passed : IsPassed (g.G.Gate.opened l.course.gate.now l.number) old now;

@@ -1,6 +1,6 @@
 use Rattle.fd_crew.proofs.Working.{worked_one, worked_next, same_at, fits_at, rest_after}
 use Rattle.fd_crew.proofs.Passing.{passed_next}
-use Rattle.std.proofs.Common.{refl}
+use Rattle.std.proofs.Common.{refl, ◌∙◌}
 use Rattle.fd_crew.proofs.Wants.{lowered_then}
 use Rattle.fd_crew.proofs.crew.draw_lanes.Goals as goal
 
@@ -13,6 +13,7 @@ draw_lane-requires-clause-fits g c _ _ =
 pub loop-index-preserved : goal.loop-index-preserved
 loop-index-preserved g c =
     record {
+      found = c.draw_lane.ensures.found ∙ c.loop-index.invariant.found;
       seat = c.draw_lane.ensures.seat;
       worked = worked_next _ _ _ _ _ _ _ _ _ _ _ _ c.loop-index-test.true c.loop-index.auto.lanes (cc) c.loop-index.invariant.rest
           c.loop-index.invariant.worked (worked_one _ _ _ _ _ _ _ _ c.draw_lane.ensures.lane c.draw_lane.ensures.fits

@@ -4,6 +4,7 @@ use Rattle.fd_crew.proofs.crew.draw_lanes.Given as goal
 
 abbrev pub invariant-loop-index : goal.invariant-loop-index
 invariant-loop-index g l = record {
+  found : l.found ≡ l.course.table.now;
   seat : g.S.Post.stands l.course.fence.now l.seat;
   worked : Worked g.L.Lane.shown g.L.Lane.fits l.course.table.now l.course.fence.now.table.shared.key.target (g.S.Post.view l.initial.seat)
       (g.S.Post.view l.seat)

@@ -13,22 +13,22 @@ top : (c : After-is_stored) → c.is_stored.result ≡ true
 top c is =
     goes c.is_stored.new.self.full c.is_stored.new.self.last c.loop-self.invariant.left c.is_stored.ensures.same (c.is_stored.ensures.yes is)
 
-pub put_frame-requires-clause-inside : goal.put_frame-requires-clause-inside
-put_frame-requires-clause-inside c =
-    let t = top (goal.at-put_frame-requires-clause-inside c).After-is_stored c.loop-self-test.true in
-    rw (c.newest_slices.ensures.there, t.own, c.loop-self.invariant.tile, all_restored-place)
+pub put_newest-requires-clause-inside : goal.put_newest-requires-clause-inside
+put_newest-requires-clause-inside c =
+    let t = top (goal.at-put_newest-requires-clause-inside c).After-is_stored c.loop-self-test.true in
+    rw (t.own, c.loop-self.invariant.tile, all_restored-place)
     (c.requires.inside (newest c.is_stored.new.self.last.frames).number t.left.least t.within)
 
-pub put_frame-requires-clause-alike : goal.put_frame-requires-clause-alike
-put_frame-requires-clause-alike c =
-    let t = top (goal.at-put_frame-requires-clause-alike c).After-is_stored c.loop-self-test.true in
-    rw (c.newest_slices.ensures.there, t.own, c.loop-self.invariant.tile, all_restored-place, all_restored-made)
+pub put_newest-requires-clause-alike : goal.put_newest-requires-clause-alike
+put_newest-requires-clause-alike c =
+    let t = top (goal.at-put_newest-requires-clause-alike c).After-is_stored c.loop-self-test.true in
+    rw (t.own, c.loop-self.invariant.tile, all_restored-place, all_restored-made)
     (λ not. c.requires.alike not (newest c.is_stored.new.self.last.frames).number t.left.least t.within)
 
-pub put_frame-requires-clause-depths : goal.put_frame-requires-clause-depths
-put_frame-requires-clause-depths c =
-    let t = top (goal.at-put_frame-requires-clause-depths c).After-is_stored c.loop-self-test.true in
-    rw (c.newest_slices.ensures.there, t.own, c.loop-self.invariant.tile, all_restored-deep)
+pub put_newest-requires-clause-depths : goal.put_newest-requires-clause-depths
+put_newest-requires-clause-depths c =
+    let t = top (goal.at-put_newest-requires-clause-depths c).After-is_stored c.loop-self-test.true in
+    rw (t.own, c.loop-self.invariant.tile, all_restored-deep)
     (c.requires.depths (newest c.is_stored.new.self.last.frames).number t.left.least t.within)
 
 pub loop-self-init : goal.loop-self-init

@@ -4,8 +4,8 @@ use Rattle.fd_owner.specs.History.{position}
 use Rattle.fd_owner.specs.Shown.{Shown, IsInside, gone_on_to}
 use Rattle.fd_owner.proofs.Histories.{position_extend}
 use Rattle.fd_owner.proofs.Gone.{gone_none, gone_more, gone_further}
-use Rattle.fd_owner.proofs.owner.Owner.clear_to.Goals as goal
-use Rattle.fd_owner.proofs.owner.Owner.clear_to.Goals.{Then-clear, Else-clear, After-pass_to}
+use Rattle.fd_owner.proofs.owner.Owner.clear_own.Goals as goal
+use Rattle.fd_owner.proofs.owner.Owner.clear_own.Goals.{Then-clear, Else-clear, After-pass_to}
 
 -- a clear is a position more
 one_more : (c : Then-clear) → position c.clear.new.self.history ≡ position c.loop-clears.self.history + 1

@@ -1,7 +1,7 @@
 use Rattle.std.proofs.Common.{◌≡◌, ◌≤◌, ◌-◌}
 use Rattle.fd_owner.specs.History.{position}
 use Rattle.fd_owner.specs.Shown.{gone_on_to}
-use Rattle.fd_owner.proofs.owner.Owner.clear_to.Given as goal
+use Rattle.fd_owner.proofs.owner.Owner.clear_own.Given as goal
 
 abbrev pub invariant-loop-clears : goal.invariant-loop-clears
 invariant-loop-clears l = record {
