@@ -13,7 +13,7 @@ ghost use Rattle.fd_cli.specs.Waiting.{WaitsAbout};
 ghost use Rattle.fd_cli.specs.CommandLine.{EndsBefore, Explains, Programs, Refuses, RefusesWords, WritesHelp};
 
 use crate::files::{FileFault, Files, WordsFault};
-use crate::performing::{Devices, perform};
+use crate::performing::{Devices, perform_file};
 use clap::Error;
 use clap::error::ErrorKind;
 use fd_arguments::{explained, read_arguments};
@@ -69,7 +69,7 @@ pub fn program<T: Threads + Sync, S: AsStr, F: Files, R: Source, W: Sink, E: Sin
         Err(error) => return explain(alloc, &error, words, devices),
     };
     match files.read(alloc, arguments.capture) {
-        Ok(capture) => perform(rt, alloc, arguments.request, &capture, devices),
+        Ok(capture) => perform_file(rt, alloc, arguments.request, capture, devices),
         Err(fault) => refuse_file(fault, devices),
     }
 }

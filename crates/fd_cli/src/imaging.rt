@@ -59,7 +59,7 @@ fn write_shown<W: Sink>(alloc: Global, still: &Still, sink: &mut W) -> Ending
 }
 
 /// Writes the image of a table at a position, or at the last one.
-fn write_table<T: Threads + Sync, W: Sink>(
+pub(crate) fn write_table<T: Threads + Sync, W: Sink>(
     host: &Host<'_, T>,
     table: EventTable,
     workers: u32,

@@ -50,7 +50,7 @@ pub fn serve<T: Threads + Sync, R: Source, W: Sink>(
 }
 
 /// Answers the commands that come from the source.
-fn serve_table<T: Threads + Sync, R: Source, W: Sink>(
+pub(crate) fn serve_table<T: Threads + Sync, R: Source, W: Sink>(
     host: &Host<'_, T>,
     table: EventTable,
     workers: u32,

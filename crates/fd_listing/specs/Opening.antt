@@ -18,6 +18,10 @@ abbrev pub Opens : List ℕ → Result Table Ending → Type 0
 Opens capture (Ok table) = capture_of capture ≡ Ok table
 Opens capture (Err ending) = EndsUnread capture ending
 
+-- So it does, and a capture that is too long is refused as that, whatever memory there is.
+abbrev pub OpensAs : List ℕ → Result Table Ending → Type 0
+OpensAs capture opened = Opens capture opened × (most_bytes < length capture → opened ≡ Err (Capture fault.TooLong))
+
 -- What a call on a capture did, by how it ends: something about its table, or nothing where the capture is refused or memory is wanted.
 abbrev pub OfCapture : List ℕ → Ending → Type 0 → (Table → Type 0) → Type 0
 OfCapture capture (Capture refused) Nothing Does = EndsUnread capture (Capture refused) × Nothing

@@ -30,7 +30,7 @@ pub fn list_events<W: Sink>(alloc: Global, capture: &[u8], sink: &mut W) -> Endi
 }
 
 /// Writes the list of a table's events at position 0.
-fn list_table<W: Sink>(table: &EventTable, sink: &mut W) -> Ending
+pub fn list_table<W: Sink>(table: &EventTable, sink: &mut W) -> Ending
     ensures writes { (written : List ℕ) × Appends (W.contents sink.old) (W.contents sink.new) written × WritesText (event_list table.now 0) written result }
     ensures failures { CountsWriter result (W.failure_count sink.old) (W.failure_count sink.new) }
     ensures flushed { EndsFlushed result (W.is_flushed sink.old) (W.is_flushed sink.new) }
