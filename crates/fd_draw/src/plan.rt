@@ -1,14 +1,16 @@
-ghost use Rattle.std.specs.Prelude.{◌≡◌, ℕ, ◌+◌, ◌*◌, ◌^◌, ◌<◌, ◌≤◌, ◌↔◌, pos, ◌≤ℤ◌, min, ◌∷◌, ◌++◌, ◌⊎◌, IsTrue, true, [], length, if◌then◌else◌, IfNone};
+ghost use Rattle.std.specs.Prelude.{◌≡◌, ℕ, ◌+◌, ◌*◌, ◌^◌, ◌<◌, ◌≤◌, ◌↔◌, pos, ◌≤ℤ◌, min, ◌∷◌, ◌++◌, ◌⊎◌, IsTrue, true, false, [], length, if◌then◌else◌, IfNone};
 ghost use Rattle.std.specs.Prelude.{IfSome};
 ghost use Rattle.std.specs.List.{sum_by};
 ghost use Rattle.fd_cover.specs.Bounds.{is_empty};
+ghost use Rattle.fd_cover.specs.Verdict.{is_in_range};
 ghost use Rattle.fd_events.specs.Bounds.{CoverNone};
 ghost use Rattle.fd_events.specs.Culled.{AreCulled};
 ghost use Rattle.fd_events.specs.Draw.{triangles_of};
 ghost use Rattle.fd_events.specs.declared.pipeline.Pipeline.{Pipeline};
-ghost use Rattle.fd_tile.specs.Place.{IsTilePlace};
+ghost use Rattle.fd_snap.specs.Limits.{most_pixels};
+ghost use Rattle.fd_tile.specs.Place.{Holds, IsTilePlace};
 ghost use Rattle.fd_tile.specs.declared.place.TheConstants.{TILE_SIDE};
-ghost use Rattle.fd_draw.specs.Area.{LiesIn, IsOpen, IsSmall, IsWindow, box_of_place};
+ghost use Rattle.fd_draw.specs.Area.{LiesIn, IsOpen, IsSmall, IsWindow, box_of_place, is_closed};
 ghost use Rattle.fd_draw.specs.Demand.{pixels_in, spans_in, triangle_pixels, triangle_spans, event_pixels, event_spans};
 ghost use Rattle.fd_draw.specs.declared.plan.TheConstants.{MOST_PLANNED};
 ghost use Rattle.arrayvec.specs.ArrayVec.{array_vec_len};
@@ -185,6 +187,9 @@ pub fn draws_nothing(event: &Event, state: &Pipeline, place: Place) -> bool
             if draw.is_culled(&state.raster) {
                 return true;
             }
+            if is_cut_off(&state.raster, &state.scissor, place) {
+                return true;
+            }
             window_of(draw, state, place).is_empty()
         }
         Effect::Clear(_) | Effect::State | Effect::Nothing => false,
@@ -234,6 +239,26 @@ fn is_shut(depth: &Depth) -> bool
     ensures { IsTrue result → (depth.now.enable ≡ true) × (depth.now.func ≡ Never) }
 {
     depth.enable && matches!(depth.func, Func::Never)
+}
+
+/// Whether the scissor leaves no pixel of a tile.
+fn is_cut_off(raster: &Raster, rect: &Rect, place: Place) -> bool
+    requires { IsTilePlace place }
+    ensures { IsTrue result → (x y : ℕ) → Holds place x y → is_closed raster.now rect.now x y ≡ true }
+{
+    let whole = box_of(place);
+    raster.scissor
+        && (is_apart(rect.left, rect.right, whole.left, whole.right)
+            || is_apart(rect.top, rect.bottom, whole.top, whole.bottom))
+}
+
+/// Whether no number from `low` up to `high` is one from `from` up to `past`.
+fn is_apart(low: i32, high: i32, from: u32, past: u32) -> bool
+    requires order { from ≤ past }
+    requires small { past ≤ most_pixels }
+    ensures { IsTrue result → (n : ℕ) → from ≤ n → n < past → is_in_range low high n ≡ false }
+{
+    low.max(from as i32) >= high.min(past as i32)
 }
 
 /// What a clear writes: all pixels, by rows.
