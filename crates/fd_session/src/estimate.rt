@@ -28,6 +28,9 @@ const PASSED_WORK: usize = 60;
 /// The work of a clear on a tile that is known to be alike, in nanoseconds.
 const ALIKE_WORK: usize = 100;
 
+/// The same of clears behind the first one of a tile, before anything is drawn: what they overwrite is kept once for all tiles.
+const SHARED_WORK: usize = 1;
+
 /// The work of passing over a draw on a tile, where its state lets it draw nothing, in nanoseconds.
 const IDLE_WORK: usize = 10;
 
@@ -125,11 +128,33 @@ impl Area {
     }
 }
 
-/// Whether all tiles are known to be of one colour, and of one depth.
+/// What some events do first.
+#[derive(Clone, Copy)]
+enum Opening {
+    /// They write nothing.
+    Nothing,
+    /// They clear, and draw nothing.
+    Clears,
+    /// They clear or draw, and more follows.
+    Past,
+}
+
+/// Whether all tiles are known to be of one colour, and of one depth, and what the events before did first.
 #[derive(Clone, Copy)]
 struct Alike {
     colours: bool,
     depths: bool,
+    opening: Opening,
+}
+
+impl Opening {
+    /// Past a clear.
+    fn cleared(self) -> Opening {
+        match self {
+            Opening::Nothing | Opening::Clears => Opening::Clears,
+            Opening::Past => Opening::Past,
+        }
+    }
 }
 
 impl Alike {
@@ -141,11 +166,27 @@ impl Alike {
         let mut alike = Alike {
             colours: first == 0,
             depths: first == 0 || !has_depths(table),
+            opening: if first == 0 {
+                Opening::Nothing
+            } else {
+                Opening::Past
+            },
         };
         for at in first..position {
             alike = alike.past(table, at + 1);
         }
-        alike
+        alike.opened()
+    }
+
+    /// At the beginning of a slice: clears before it are kept, and later ones not with them.
+    fn opened(self) -> Alike {
+        match self.opening {
+            Opening::Nothing => self,
+            Opening::Clears | Opening::Past => Alike {
+                opening: Opening::Past,
+                ..self
+            },
+        }
     }
 
     /// Past the event of this number too. A draw is taken to reach them all.
@@ -159,17 +200,28 @@ impl Alike {
         match table.event(number).effect() {
             Effect::Clear(Clear::Colours(_)) => Alike {
                 colours: true,
+                opening: self.opening.cleared(),
                 ..self
             },
             Effect::Clear(Clear::Depths(_)) => Alike {
                 depths: true,
+                opening: self.opening.cleared(),
                 ..self
             },
             Effect::Draw(_) => Alike {
                 colours: false,
                 depths: self.depths && !has_depths(table),
+                opening: Opening::Past,
             },
             Effect::State | Effect::Nothing => self,
+        }
+    }
+
+    /// The work of one more clear on a tile, in nanoseconds, where they are.
+    fn clear_work(self) -> usize {
+        match self.opening {
+            Opening::Clears => SHARED_WORK,
+            Opening::Nothing | Opening::Past => ALIKE_WORK,
         }
     }
 
@@ -185,7 +237,7 @@ fn has_depths(table: &EventTable) -> bool {
 }
 
 /// What some events take on the tiles of an area, in nanoseconds.
-#[derive(Drop)]
+#[derive(Clone, Copy)]
 pub(crate) struct Estimate<'a> {
     area: &'a Area,
     alike: Alike,
@@ -250,6 +302,15 @@ impl<'a> Estimate<'a> {
         }
     }
 
+    /// The work of writing every pixel that the event of this number reaches once.
+    pub(crate) fn reached_work(&self, table: &EventTable, number: u32) -> usize
+        requires first { 1 ≤ number }
+        requires last { number ≤ length table.now.events }
+    {
+        let reached = self.area.bounds.meet(table.reach(number));
+        reached.count().saturating_mul(PIXEL_WORK)
+    }
+
     /// Adds the event of this number, the next one. A tile that it doesn't reach doesn't look at it, so it takes nothing there.
     pub(crate) fn add_event(&mut self, table: &EventTable, number: u32)
         requires first { 1 ≤ number }
@@ -279,7 +340,7 @@ impl<'a> Estimate<'a> {
                 self.add_draw(draw);
             }
             Effect::Clear(_) if self.alike.is_both() => {
-                self.add(reached, tiles.saturating_mul(ALIKE_WORK));
+                self.add(reached, tiles.saturating_mul(self.alike.clear_work()));
             }
             Effect::Clear(_) | Effect::State | Effect::Nothing => {
                 self.add(reached, pixels.saturating_mul(PIXEL_WORK));

@@ -9,12 +9,34 @@ use fd_events::EventTable;
 /// The work that a worker must have to be worth its thread, in nanoseconds: a thread takes 30 to 50 microseconds to start.
 const WORKER_WORK: usize = 130_000;
 
-/// The work of a slice of a session's move for each of its workers, in nanoseconds. With shorter ones more threads are started and waited for, and a tile
-/// goes through fewer events while it is in the cache.
-pub(crate) const MOVE_WORK: usize = 60_000_000;
+/// The work of a slice by its first worker and by each other one, in nanoseconds.
+#[derive(Clone, Copy)]
+pub(crate) struct SliceWork {
+    pub first: usize,
+    pub other: usize,
+}
 
-/// The same for a still, whose records are gone after each slice, so that they take little memory.
-pub(crate) const STILL_WORK: usize = 17_000_000;
+/// Of a session's move. With shorter slices more threads are started and waited for, and a tile goes through fewer events while it is in the cache.
+pub(crate) const MOVE_WORK: SliceWork = SliceWork {
+    first: 60_000_000,
+    other: 60_000_000,
+};
+
+/// Of a still, whose records are gone after each slice, so that they take little memory.
+pub(crate) const STILL_WORK: SliceWork = SliceWork {
+    first: 10_000_000,
+    other: 4_000_000,
+};
+
+impl SliceWork {
+    /// By so many workers.
+    fn of(self, workers: usize) -> usize {
+        workers
+            .saturating_sub(1)
+            .saturating_mul(self.other)
+            .saturating_add(self.first)
+    }
+}
 
 /// The work of a slice for each tile beside that, in nanoseconds, so that on many tiles a slice does more than fetch them all.
 const FETCHED_WORK: usize = 500;
@@ -65,10 +87,9 @@ impl Slice {
     }
 }
 
-/// The next slice of a move that has come to a position: as many events as are worth so much work of each worker, or all that are left, with the tiles
-/// shared out so that each worker has about as much of it.
-/// Each event is looked at once, but on a single tile none is.
-pub(crate) fn next_slice(way: &Way<'_>, at: u32, workers: u32, work_each: usize) -> Slice
+/// The next slice of a move that has come to a position: as many events as are worth so much work, or all that are left, with the tiles shared out so that
+/// each worker has about as much of it. On a single tile none is looked at.
+pub(crate) fn next_slice(way: &Way<'_>, at: u32, workers: u32, work: SliceWork) -> Slice
     requires ahead { at < way.now.to }
     requires within { way.now.to ≤ length way.now.table.now.events }
     requires some { 1 ≤ workers }
@@ -90,24 +111,57 @@ pub(crate) fn next_slice(way: &Way<'_>, at: u32, workers: u32, work_each: usize)
     // a worker that has no tile is worth nothing
     let useful = area.tiles.clamp(1, workers as usize);
     let fetched = area.tiles.saturating_mul(FETCHED_WORK);
-    let enough = fetched
-        .saturating_add(useful.saturating_mul(work_each))
-        .min(SLICE_MOST);
+    let enough = fetched.saturating_add(work.of(useful)).min(SLICE_MOST);
     let mut estimate = Estimate::of(&area, table, at);
-    let mut end = at;
-    loop {
-        end += 1;
-        estimate.add_event(table, end);
-        if end == to || estimate.work() >= enough {
-            let workers = (estimate.work() / WORKER_WORK).clamp(1, useful) as u32;
-            return Slice {
-                from: at,
-                end,
-                workers,
-                firsts: estimate.firsts(workers),
-            };
-        }
+    let end = take_events(&mut estimate, way, at, enough);
+    let workers = (estimate.work() / WORKER_WORK).clamp(1, useful) as u32;
+    Slice {
+        from: at,
+        end,
+        workers,
+        firsts: estimate.firsts(workers),
     }
+}
+
+/// Adds the next events of a move to an estimate of none, until they are enough work or none is left, and gives where they end. One that is half of it
+/// by itself isn't taken behind others where they are enough with it, so that what it overwrites isn't kept beside what they do.
+fn take_events(estimate: &mut Estimate<'_>, way: &Way<'_>, at: u32, enough: usize) -> u32
+    requires ahead { at < way.now.to }
+    requires within { way.now.to ≤ length way.now.table.now.events }
+    ensures on { at < result }
+    ensures within { result ≤ way.now.to }
+{
+    let Way { table, to, .. } = *way;
+    let half = enough / 2;
+    let mut end = at + 1;
+    estimate.add_event(table, end);
+    while end < to && estimate.work() < enough {
+        if estimate.reached_work(table, end + 1) >= half {
+            if !add_large(estimate, table, end + 1, enough) {
+                break;
+            }
+        } else {
+            estimate.add_event(table, end + 1);
+        }
+        end += 1;
+    }
+    end
+}
+
+/// Adds the event of this number, the next one, unless it is half of what is enough by itself and the events are enough with it; whether it did.
+fn add_large(estimate: &mut Estimate<'_>, table: &EventTable, number: u32, enough: usize) -> bool
+    requires first { 1 ≤ number }
+    requires last { number ≤ length table.now.events }
+{
+    let before = *estimate;
+    estimate.add_event(table, number);
+    let work = estimate.work();
+    let own = work.saturating_sub(before.work());
+    if work >= enough && own >= enough / 2 {
+        *estimate = before;
+        return false;
+    }
+    true
 }
 
 #[cfg(test)]

@@ -12,7 +12,7 @@ fn recorded(still: &Still) -> u64 {
     count
 }
 
-/// With one worker a slice of a still takes 17 ms by estimate, which are 17 of these clears.
+/// With one worker a slice of a still takes 10 ms by estimate, which are 10 of these clears.
 #[test]
 fn a_still_keeps_nothing(rt: HostRuntime) -> Result<(), Fail> {
     let table = EventTable::start(rt.alloc(), 3, 512, 512, drawn_clears(rt.alloc(), 40)?)?;
@@ -22,7 +22,7 @@ fn a_still_keeps_nothing(rt: HostRuntime) -> Result<(), Fail> {
     let mut teller = Teller::default();
     assert!(rt; still.position() <= 80);
     assert_eq!(rt; still.go(&rt, 80, &mut teller), Answer::Moved { at: 80 });
-    assert_eq!(rt; (teller.times, teller.at, teller.to), (2, 68, 80));
+    assert_eq!(rt; (teller.times, teller.at, teller.to), (3, 60, 80));
     assert_eq!(rt; still.position(), 80);
     assert_eq!(rt; recorded(&still), 0);
     assert!(rt; still.table().width() == 512);
@@ -33,6 +33,6 @@ fn a_still_keeps_nothing(rt: HostRuntime) -> Result<(), Fail> {
     assert!(rt; still.position() <= 81);
     let refused = Answer::Refused(SessionFault::NoSuchPosition);
     assert_eq!(rt; still.go(&rt, 81, &mut teller), refused);
-    assert_eq!(rt; teller.times, 2);
+    assert_eq!(rt; teller.times, 3);
     Ok(())
 }

@@ -3,7 +3,7 @@ ghost use Rattle.std.specs.Prelude.{◌≡◌, ◌<◌, ◌≤◌, length, IfOk}
 use crate::estimate::Area;
 use crate::tests::frames::{colour, draw, flat};
 use crate::way::Way;
-use crate::worth::{MOVE_WORK, Slice, next_slice};
+use crate::worth::{MOVE_WORK, STILL_WORK, Slice, next_slice};
 use fd_cover::{Bounds, Depth, Func, Interp};
 use fd_events::{Event, EventTable};
 use std::alloc::Global;
@@ -68,6 +68,24 @@ fn clears_of_what_is_alike_are_little_work(rt: HostRuntime) -> Result<(), Fail> 
     let second = Event::Clear(colour(5, 6, 7, 8));
     let table = table(alloc, first, second)?;
     assert_eq!(rt; slice_of(&table, 0, 2, 512, 64).workers, 1);
+    Ok(())
+}
+
+/// On 262,144 tiles the first clear takes 26,214,400 ns and each behind it 262,144, and a slice ends at 191,072,000. Where the first was gone through before,
+/// each of the others takes as much as the first.
+#[test]
+fn clears_that_are_kept_once_are_little_work(rt: HostRuntime) -> Result<(), Fail> {
+    let alloc = rt.alloc();
+    let mut events = Vec::new(alloc);
+    for grey in 0..40 {
+        events.push(Event::Clear(colour(grey, grey, grey, grey)))?;
+    }
+    let table = EventTable::start(alloc, 3, 16384, 16384, events)?;
+    if table.len() < 40 {
+        return Err(Fail::from("40 clears"));
+    }
+    assert_eq!(rt; slice_of(&table, 0, 40, 262_144, 1).end, 40);
+    assert_eq!(rt; slice_of(&table, 1, 40, 262_144, 1).end, 9);
     Ok(())
 }
 
@@ -145,6 +163,33 @@ fn a_slice_does_more_than_fetch_its_tiles(rt: HostRuntime) -> Result<(), Fail> {
     let table = table(alloc, first, second)?;
     assert_eq!(rt; slice_of(&table, 0, 2, 512, 1).end, 1);
     assert_eq!(rt; slice_of(&table, 0, 2, 400_000, 1).end, 2);
+    Ok(())
+}
+
+/// On 2048 by 2048 pixels a clear of what was drawn on takes 16,777,216 ns, and a slice of a still ends at 12,048,000 by one worker and at 24,048,000 by
+/// four. It begins a slice where it is half of one and doesn't end in the slice of what was before. On 2048 by 1024 it takes 8,388,608 of 11,024,000.
+#[test]
+fn a_large_event_begins_a_slice(rt: HostRuntime) -> Result<(), Fail> {
+    let alloc = rt.alloc();
+    for (height, from, workers, end) in [
+        (2048, 0, 1, 1),
+        (2048, 1, 1, 2),
+        (2048, 0, 4, 3),
+        (1024, 0, 1, 3),
+        (1024, 2, 1, 4),
+    ] {
+        let mut events = Vec::new(alloc);
+        for grey in 1..3 {
+            events.push(flat(alloc, [(0, 0), (90, 0), (0, 90)], colour(1, 2, 3, 4))?)?;
+            events.push(Event::Clear(colour(grey, grey, grey, grey)))?;
+        }
+        let table = EventTable::start(alloc, 3, 2048, height, events)?;
+        if table.len() < 4 {
+            return Err(Fail::from("two draws and two clears"));
+        }
+        let slice = next_slice(&Way::of(&table, from, 4), from, workers, STILL_WORK);
+        assert_eq!(rt; slice.end, end, "{height}: from {from} by {workers}");
+    }
     Ok(())
 }
 

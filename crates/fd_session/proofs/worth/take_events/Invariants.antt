@@ -1,10 +1,10 @@
 use Rattle.std.proofs.Common.{◌<◌, ◌≤◌, ◌-◌}
-use Rattle.fd_session.proofs.worth.next_slice.Given as goal
+use Rattle.fd_session.proofs.worth.take_events.Given as goal
 
 abbrev pub invariant-loop-end : goal.invariant-loop-end
 invariant-loop-end l = record {
-  start : l.at ≤ l.end;
-  left : l.end < l.to;
+  start : l.at < l.end;
+  last : l.end ≤ l.to;
 }
 
 abbrev pub decreases-loop-end : goal.decreases-loop-end
