@@ -571,7 +571,8 @@ class Alone(Opened):
             capture_of(1024, 1024, [{"kind": "draw", "interp": "linear", "vertices": corners}] * 24).encode(),
             24,
         )
-        then = b"pixel 3 3\nback\nstep\nhistory 3 3\ngoto 0\nstep\nquit\n"
+        # a step back leaves memory for a history, of which there may be none before
+        then = b"pixel 3 3\nback\nhistory 3 3\nstep\ngoto 0\nstep\nquit\n"
         ((out, errors, ending),) = runs.in_page(
             self.browser, [runs.Run(["run", "CAPTURE"], capture, [b"step\n" * steps + then], 1 << 20)]
         )
