@@ -1,5 +1,5 @@
 //! Moves over events that reach few tiles. The owners of all other tiles stay where they stand, and are neither read nor written.
-ghost use Rattle.std.specs.Prelude.{◌≡◌, ℕ, ◌-◌, ◌<◌, ◌≤◌, ◌⊎◌, All, MatchResult, false, true, length};
+ghost use Rattle.std.specs.Prelude.{◌≡◌, ℕ, ◌-◌, ◌<◌, ◌≤◌, ◌⊎◌, All, IfSome, MatchResult, false, true, length};
 ghost use Rattle.std.specs.Result.{result_unwrap_or};
 ghost use Rattle.fd_tile.specs.declared.place.Place.{Place};
 ghost use Rattle.fd_tile.specs.Place.{IsTilePlace};
@@ -24,7 +24,7 @@ use fd_owner::Owner;
 use std::alloc::AllocError;
 use std::thread::Threads;
 
-/// The most events of such a move.
+/// The most events of such a move back.
 const MOST_EVENTS: u32 = 64;
 
 /// The most that it may take: an event counts for each tile that it reaches once, and a draw once more for each group of its triangles.
@@ -190,20 +190,25 @@ fn looks(table: &EventTable, number: u32) -> usize
         .saturating_mul(each as usize)
 }
 
-/// A box round the pixels that the events from one position up to another reach.
-fn reach_between(table: &EventTable, from: u32, to: u32) -> Bounds
+/// A box round the pixels that the events from one position up to another reach. None where they reach as many as the target has.
+fn reach_between(table: &EventTable, from: u32, to: u32) -> Option<Bounds>
     requires order { from ≤ to }
     requires within { to ≤ length table.now.events }
-    ensures { (place : Place) → IsTilePlace place → IsInside place table.now → Misses result place → AreUntouched table.now from to place }
+    ensures { IfSome result (λ bounds. (place : Place) → IsTilePlace place → IsInside place table.now → Misses bounds place
+        → AreUntouched table.now from to place) }
 {
+    let all = Area::of(table).bounds.count();
     let mut bounds = Bounds::empty();
     for at in from..to {
         bounds = bounds.join(table.reach(at + 1));
+        if bounds.count() >= all {
+            return None;
+        }
     }
-    bounds
+    Some(bounds)
 }
 
-/// The owners, of so many, whose tiles the events of a way may reach: all, where the events are many.
+/// The owners, of so many, whose tiles the events of a way may reach.
 fn reached(way: &Way<'_>, count: usize) -> Taken
     requires order { way.now.from ≤ way.now.to }
     requires within { way.now.to ≤ length way.now.table.now.events }
@@ -218,14 +223,14 @@ fn reached(way: &Way<'_>, count: usize) -> Taken
         to,
         ..
     } = *way;
-    if to - from > MOST_EVENTS {
+    let Some(bounds) = reach_between(table, from, to) else {
         return Taken {
             first: 0,
             past: count,
             area: way.area,
         };
-    }
-    let area = Area::round(table, reach_between(table, from, to));
+    };
+    let area = Area::round(table, bounds);
     match area.next_tile(0, count) {
         Some(first) => Taken {
             first,

@@ -86,6 +86,25 @@ fn a_step_over_what_reaches_no_tile_takes_nobody(rt: HostRuntime) -> Result<(), 
     Ok(())
 }
 
+/// A hundred draws on the first of the tiles.
+#[test]
+fn a_long_jump_takes_the_owners_of_tiles_that_it_reaches(rt: HostRuntime) -> Result<(), Fail> {
+    let alloc = rt.alloc();
+    let mut events = Vec::new(alloc);
+    for number in 1..101 {
+        events.push(flat(alloc, [(0, 0), (8, 0), (0, 8)], grey(number))?)?;
+    }
+    let mut session = session(alloc, 96, 32, events, 2)?;
+    go(&rt, &mut session, 100);
+    expect_owners(&rt, &session, [100, 0, 0]);
+    expect_pixel(&rt, &session, (1, 1), grey(100));
+    expect_pixel(&rt, &session, (33, 1), grey(0));
+    go(&rt, &mut session, 0);
+    expect_owners(&rt, &session, [0, 0, 0]);
+    expect_pixel(&rt, &session, (1, 1), grey(0));
+    Ok(())
+}
+
 #[test]
 fn a_jump_takes_owners_from_where_they_stand(rt: HostRuntime) -> Result<(), Fail> {
     let mut session = three_tiles(rt.alloc())?;
