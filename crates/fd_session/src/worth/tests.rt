@@ -167,16 +167,19 @@ fn a_slice_does_more_than_fetch_its_tiles(rt: HostRuntime) -> Result<(), Fail> {
 }
 
 /// On 2048 by 2048 pixels a clear of what was drawn on takes 16,777,216 ns, and a slice of a still ends at 12,048,000 by one worker and at 24,048,000 by
-/// four. It begins a slice where it is half of one and doesn't end in the slice of what was before. On 2048 by 1024 it takes 8,388,608 of 11,024,000.
+/// four. It begins a slice where it is half of one and doesn't end in the slice of what was before, and isn't counted there. On 2048 by 1024 it takes
+/// 8,388,608 of 11,024,000, and on 2048 by 4096 by four workers 33,554,432 of 26,096,000. The draw, of 36,360 ns, is worth no further worker.
 #[test]
 fn a_large_event_begins_a_slice(rt: HostRuntime) -> Result<(), Fail> {
     let alloc = rt.alloc();
-    for (height, from, workers, end) in [
-        (2048, 0, 1, 1),
-        (2048, 1, 1, 2),
-        (2048, 0, 4, 3),
-        (1024, 0, 1, 3),
-        (1024, 2, 1, 4),
+    for (height, from, workers, end, worth) in [
+        (2048, 0, 1, 1, 1),
+        (2048, 1, 1, 2, 1),
+        (2048, 0, 4, 3, 4),
+        (1024, 0, 1, 3, 1),
+        (1024, 2, 1, 4, 1),
+        (4096, 0, 4, 1, 1),
+        (4096, 1, 4, 2, 4),
     ] {
         let mut events = Vec::new(alloc);
         for grey in 1..3 {
@@ -189,6 +192,7 @@ fn a_large_event_begins_a_slice(rt: HostRuntime) -> Result<(), Fail> {
         }
         let slice = next_slice(&Way::of(&table, from, 4), from, workers, STILL_WORK);
         assert_eq!(rt; slice.end, end, "{height}: from {from} by {workers}");
+        assert_eq!(rt; slice.workers, worth, "{height}: from {from} by {workers}");
     }
     Ok(())
 }
